@@ -1,0 +1,86 @@
+//! A line that is built in place.
+
+ghost use Rattle.std.specs.Prelude.{◌≡◌, ℕ, ◌+◌, ◌<◌, ◌≤◌, ◌^◌, List, [], ◌∷◌, ◌++◌, length, take, false};
+ghost use Rattle.std.specs.Fmt.{decimal};
+ghost use Rattle.op_table.specs.declared.kind.Class.TheVariants as class;
+ghost use Rattle.op_table.specs.Kind.{IsKind, values_of};
+ghost use Rattle.op_table.specs.Value.{value_text};
+
+use crate::kind::Kind;
+use itoa::Buffer;
+use std::marker::Model;
+
+/// A list of at most 256 bytes, which takes no memory.
+#[derive(Drop)]
+pub struct LineBuf {
+    buf: [u8; 256],
+    len: usize,
+}
+
+impl Model for LineBuf {
+    ghost Value = { List ℕ };
+
+    ghost view = { λ b. take b.len b.buf };
+
+    ghost invariant = { λ b. b.len ≤ 256 };
+}
+
+/// Puts a piece into the cells from `at` on.
+fn put(buf: &mut [u8], at: usize, text: &[u8])
+    requires { at + length text.now ≤ length buf.old }
+    ensures { take (at + length text.now) buf.new ≡ take at buf.old ++ text.now }
+{
+    buf[at..at + text.len()].copy_from_slice(text);
+}
+
+impl LineBuf {
+    /// No bytes.
+    pub fn new() -> Self
+        ensures { result ≡ [] }
+    {
+        LineBuf {
+            buf: [0; 256],
+            len: 0,
+        }
+    }
+
+    /// The bytes so far, in order.
+    pub fn bytes(&self) -> &[u8]
+        ensures value { result.now ≡ self.now }
+        ensures short { length result.now ≤ 256 }
+    {
+        &self.buf[..self.len]
+    }
+
+    /// Adds a piece at the end.
+    pub fn push_text(&mut self, text: &[u8])
+        requires { length self.old + length text.now ≤ 256 }
+        ensures { self.new ≡ self.old ++ text.now }
+    {
+        let at = self.len;
+        put(&mut self.buf, at, text);
+        self.len = at + text.len();
+    }
+
+    /// Adds the decimal text of a number.
+    pub fn push_number(&mut self, n: u64)
+        requires { length self.old + length (decimal n) ≤ 256 }
+        ensures { self.new ≡ self.old ++ decimal n }
+    {
+        let mut buffer = Buffer::new();
+        self.push_text(buffer.format(n).as_bytes());
+    }
+
+    /// Adds the text of a value of a kind. Unsigned integers so far.
+    #[tactic(auto, unfolding(crate::specs::Value::value_text))]
+    pub fn push_value(&mut self, kind: Kind, v: u128)
+        requires kind { IsKind kind }
+        requires unsigned { (kind.class ≡ class.Int) × (kind.signed ≡ false) }
+        requires value { v < values_of kind }
+        requires room { length self.old + length (value_text kind v) ≤ 256 }
+        ensures { self.new ≡ self.old ++ value_text kind v }
+    {
+        let mut buffer = Buffer::new();
+        self.push_text(buffer.format(v).as_bytes());
+    }
+}
