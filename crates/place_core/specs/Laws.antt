@@ -1,0 +1,63 @@
+-- Laws over histories, as the module `laws` proves them.
+use Rattle.std.specs.Prelude.{◌≡◌, ◌≢◌, ◌↔◌, ℕ, suc, ◌≤◌, List, [], ◌∷◌, ◌++◌, length, Some, slice_get}
+use mathlib.Core.List.{IsPrefix}
+use Rattle.place_core.specs.declared.entry.Entry.{Entry}
+use Rattle.place_core.specs.declared.script.Line.{Line}
+use Rattle.place_core.specs.Histories.{Each, CallersWithin}
+use Rattle.place_core.specs.Cells.{Cell, left_by, value_of, entries_by, IsLawful, IsLegal, HasTableReply}
+use Rattle.place_core.specs.Runs.{IsCellRun}
+use Rattle.place_core.specs.Plain.{plain_history, ScriptsFit}
+
+-- ---- legal histories
+
+abbrev pub EmptyIsLegal : Type 0
+EmptyIsLegal = (cells : List Cell) → IsLegal cells []
+
+-- one more entry
+abbrev pub LegalWithOneMore : Type 0
+LegalWithOneMore = (cells : List Cell) (H : List Entry) (x : Entry) → IsLegal cells (H ++ x ∷ []) ↔ (IsLegal cells H × IsLawful cells H x)
+
+abbrev pub LegalInFront : Type 0
+LegalInFront = (cells : List Cell) (H K : List Entry) → IsPrefix H K → IsLegal cells K → IsLegal cells H
+
+-- ---- values
+
+abbrev pub ValueAtStart : Type 0
+ValueAtStart = (cells : List Cell) (o : ℕ) (cell : Cell) → slice_get cells o ≡ Some cell → value_of cells [] o ≡ cell.start
+
+abbrev pub ValueAfterOwn : Type 0
+ValueAfterOwn = (cells : List Cell) (H : List Entry) (x : Entry) (cell : Cell) → slice_get cells x.object ≡ Some cell → value_of cells (H ++ x ∷ []) x.object ≡ left_by cell.kind x (value_of cells H x.object)
+
+-- an entry on one object leaves the value of every other
+abbrev pub ValueAfterOther : Type 0
+ValueAfterOther = (cells : List Cell) (H : List Entry) (x : Entry) (o : ℕ) → x.object ≢ o → value_of cells (H ++ x ∷ []) o ≡ value_of cells H o
+
+-- ---- entries of a caller
+
+abbrev pub EntriesOfNone : Type 0
+EntriesOfNone = (c : ℕ) → entries_by [] c ≡ []
+
+abbrev pub EntriesWithOwn : Type 0
+EntriesWithOwn = (H : List Entry) (x : Entry) (c : ℕ) → x.caller ≡ c → entries_by (H ++ x ∷ []) c ≡ entries_by H c ++ x ∷ []
+
+abbrev pub EntriesWithOther : Type 0
+EntriesWithOther = (H : List Entry) (x : Entry) (c : ℕ) → x.caller ≢ c → entries_by (H ++ x ∷ []) c ≡ entries_by H c
+
+abbrev pub EntriesInFront : Type 0
+EntriesInFront = (H K : List Entry) (c : ℕ) → IsPrefix H K → IsPrefix (entries_by H c) (entries_by K c)
+
+-- a caller whose number is above all in the history has no entry in it
+abbrev pub EntriesOfNew : Type 0
+EntriesOfNew = (H : List Entry) (n c : ℕ) → CallersWithin (λ (x : Entry). x.caller) n H → suc n ≤ c → entries_by H c ≡ []
+
+-- ---- runs over a plain list of numbers
+
+-- calls made one after another are a run, with the table's replies
+abbrev pub PlainIsRun : Type 0
+PlainIsRun = (cells : List Cell) (scripts : List (List Line)) → ScriptsFit cells scripts →
+    IsCellRun cells scripts (plain_history cells scripts) × Each (HasTableReply cells) (plain_history cells scripts)
+
+-- with at most one script no other history is one
+abbrev pub PlainIsOnlyRun : Type 0
+PlainIsOnlyRun = (cells : List Cell) (scripts : List (List Line)) (H : List Entry) → length scripts ≤ 1 →
+    IsCellRun cells scripts H → Each (HasTableReply cells) H → H ≡ plain_history cells scripts

@@ -1,0 +1,13 @@
+//! Names, scripts and replies; histories of calls on objects, and their laws.
+#![tactic(auto)]
+
+mod entry;
+pub mod laws;
+mod name;
+mod replies;
+mod script;
+
+pub use entry::Entry;
+pub use name::{Declared, Name};
+pub use replies::Replies;
+pub use script::{Line, Script};
