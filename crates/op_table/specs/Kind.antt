@@ -1,5 +1,5 @@
 -- Widths and kinds.
-use Rattle.std.specs.Prelude.{◌≡◌, ◌≢◌, ℕ, ◌/◌, ◌^◌, ◌<◌, false}
+use Rattle.std.specs.Prelude.{◌≡◌, ◌≢◌, ℕ, ◌^◌, false}
 use Rattle.op_table.specs.declared.kind.Width.{Width}
 use Rattle.op_table.specs.declared.kind.Width.TheVariants.{W1, W8, W16, W32, W64, W128}
 use Rattle.op_table.specs.declared.kind.Class.{Class}

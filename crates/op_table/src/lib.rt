@@ -2,15 +2,28 @@
 #![tactic(auto)]
 
 mod call;
+mod hex;
 mod kind;
+pub mod laws;
 mod line_buf;
+mod numeral;
 mod operations;
 mod order;
+mod orders;
 mod value;
+mod words;
 
 pub use call::{Call, Reply};
 pub use kind::{Class, Kind, NoMemory, Width, bits, bytes, kind_ok};
 pub use line_buf::LineBuf;
 pub use operations::{after, answer, call_fits};
 pub use order::{LoadOrder, Order, StepSet, StoreOrder};
+pub use orders::{order_fits, order_of_word, order_word};
 pub use value::{ValueFault, read_value};
+pub use words::{
+    Operation, call_word, has_operation, kind_of_word, kind_word, operation_of, operation_of_word,
+    operation_word,
+};
+
+#[cfg(test)]
+mod tests;

@@ -1,12 +1,14 @@
 //! A line that is built in place.
 
-ghost use Rattle.std.specs.Prelude.{◌≡◌, ℕ, ◌+◌, ◌<◌, ◌≤◌, ◌^◌, List, [], ◌∷◌, ◌++◌, length, take, false};
+ghost use Rattle.std.specs.Prelude.{◌≡◌, ℕ, ◌+◌, ◌<◌, ◌≤◌, ◌^◌, List, [], ◌∷◌, ◌++◌, length, take};
 ghost use Rattle.std.specs.Fmt.{decimal};
-ghost use Rattle.op_table.specs.declared.kind.Class.TheVariants as class;
 ghost use Rattle.op_table.specs.Kind.{IsKind, values_of};
-ghost use Rattle.op_table.specs.Value.{value_text};
+ghost use Rattle.op_table.specs.Value.{value_text, int_text, bool_text, address_text};
 
-use crate::kind::Kind;
+use crate::hex::put_hex;
+use crate::kind::{Class, Kind};
+use crate::operations::mask;
+use crate::value::greatest;
 use itoa::Buffer;
 use std::marker::Model;
 
@@ -71,16 +73,57 @@ impl LineBuf {
         self.push_text(buffer.format(n).as_bytes());
     }
 
-    /// Adds the text of a value of a kind. Unsigned integers so far.
+    /// Adds the decimal text of a number of 128 bits.
+    fn push_decimal(&mut self, n: u128)
+        requires { length self.old + length (decimal n) ≤ 256 }
+        ensures { self.new ≡ self.old ++ decimal n }
+    {
+        let mut buffer = Buffer::new();
+        self.push_text(buffer.format(n).as_bytes());
+    }
+
+    fn push_integer(&mut self, kind: Kind, v: u128)
+        requires value { v < values_of kind }
+        requires room { length self.old + length (int_text kind v) ≤ 256 }
+        ensures { self.new ≡ self.old ++ int_text kind v }
+    {
+        if v <= greatest(kind) {
+            self.push_decimal(v);
+        } else {
+            self.push_text(b"-");
+            self.push_decimal(mask(kind) - v + 1);
+        }
+    }
+
+    fn push_bool(&mut self, v: u128)
+        requires { length self.old + length (bool_text v) ≤ 256 }
+        ensures { self.new ≡ self.old ++ bool_text v }
+    {
+        self.push_text(if v == 0 { b"false" } else { b"true" });
+    }
+
+    fn push_address(&mut self, v: u64)
+        requires { length self.old + length (address_text v) ≤ 256 }
+        ensures { self.new ≡ self.old ++ address_text v }
+    {
+        let mut cells = [0; 16];
+        let first = put_hex(&mut cells, v);
+        self.push_text(b"0x");
+        self.push_text(&cells[first..]);
+    }
+
+    /// Adds the text of a value of a kind, at most 40 bytes. `read_value` reads it back.
     #[tactic(auto, unfolding(crate::specs::Value::value_text))]
     pub fn push_value(&mut self, kind: Kind, v: u128)
         requires kind { IsKind kind }
-        requires unsigned { (kind.class ≡ class.Int) × (kind.signed ≡ false) }
         requires value { v < values_of kind }
         requires room { length self.old + length (value_text kind v) ≤ 256 }
         ensures { self.new ≡ self.old ++ value_text kind v }
     {
-        let mut buffer = Buffer::new();
-        self.push_text(buffer.format(v).as_bytes());
+        match kind.class {
+            Class::Int => self.push_integer(kind, v),
+            Class::Bool => self.push_bool(v),
+            Class::Ptr => self.push_address(v as u64),
+        }
     }
 }

@@ -1,14 +1,11 @@
 //! Reading the text of a value.
 
-ghost use Rattle.std.specs.Prelude.{◌≡◌, ◌<◌, ◌^◌, true, false};
-ghost use Rattle.std.specs.List.{list_all};
-ghost use Rattle.std.specs.Option.{SomeIff};
-ghost use Rattle.std.specs.Str.Parse.{digits_value};
-ghost use Rattle.op_table.specs.declared.kind.Class.TheVariants as class;
+ghost use Rattle.std.specs.Prelude.{◌≡◌, ◌<◌, ◌+◌, ◌∷◌};
 ghost use Rattle.op_table.specs.Kind.{IsKind};
-ghost use Rattle.op_table.specs.Value.{is_digit, is_natural, is_negative, parsed_value};
+ghost use Rattle.op_table.specs.Value.{parsed_value, parsed_int, parsed_bool, parsed_address, negative_value, naturals_of, below};
 
-use crate::kind::Kind;
+use crate::kind::{Class, Kind};
+use crate::numeral::{Base, read_numeral};
 use crate::operations::mask;
 
 /// Why a text spells no value of a kind.
@@ -20,72 +17,98 @@ pub enum ValueFault {
     OutOfRange,
 }
 
-fn is_digit(byte: u8) -> bool
-    ensures { result ≡ is_digit byte }
+/// A number that is at most another one.
+fn up_to(most: u128, n: u128) -> Result<u128, ValueFault>
+    ensures { result ≡ below (most + 1) n }
 {
-    48 <= byte && byte <= 57
+    if n <= most {
+        Ok(n)
+    } else {
+        Err(ValueFault::OutOfRange)
+    }
 }
 
-fn are_digits(text: &[u8]) -> bool
-    ensures { result ≡ list_all is_digit text.now }
+/// The pattern of minus a number.
+fn negative(kind: Kind, n: u128) -> Result<u128, ValueFault>
+    requires { 0 < n }
+    ensures { result ≡ negative_value kind n }
 {
-    text.iter().all(|byte| is_digit(*byte))
+    let most = mask(kind);
+    if kind.signed && n <= most / 2 + 1 {
+        Ok(most - n + 1)
+    } else {
+        Err(ValueFault::OutOfRange)
+    }
 }
 
-/// Whether the text is `0`, or digits that don't begin with 0.
-fn is_natural(text: &[u8]) -> bool
-    ensures { result ≡ is_natural text.now }
+/// The greatest number of an integer kind.
+pub(crate) fn greatest(kind: Kind) -> u128
+    ensures { result + 1 ≡ naturals_of kind }
+{
+    let most = mask(kind);
+    if kind.signed { most / 2 } else { most }
+}
+
+/// The value of the text that is a minus and these bytes.
+fn read_negative(kind: Kind, digits: &[u8]) -> Result<u128, ValueFault>
+    ensures { result ≡ parsed_int kind (45 ∷ digits.now) }
+{
+    match read_numeral(Base::Ten, digits) {
+        Ok(n) => if n == 0 {
+            Err(ValueFault::BadNumber)
+        } else {
+            negative(kind, n)
+        },
+        Err(fault) => Err(fault),
+    }
+}
+
+fn read_integer(kind: Kind, text: &[u8]) -> Result<u128, ValueFault>
+    ensures { result ≡ parsed_int kind text.now }
 {
     match text.split_first() {
-        None => false,
-        Some((first, rest)) => are_digits(text) && (*first != b'0' || rest.is_empty()),
+        Some((b'-', digits)) => read_negative(kind, digits),
+        _ => match read_numeral(Base::Ten, text) {
+            Ok(n) => up_to(greatest(kind), n),
+            Err(fault) => Err(fault),
+        },
     }
 }
 
-/// Whether the text is a minus, and digits that don't begin with 0.
-fn is_negative(text: &[u8]) -> bool
-    ensures { result ≡ is_negative text.now }
+fn read_bool(text: &[u8]) -> Result<u128, ValueFault>
+    ensures { result ≡ parsed_bool text.now }
 {
-    match text.split_first() {
-        None => false,
-        Some((first, rest)) => *first == b'-' && is_natural(rest) && rest[0] != b'0',
+    if text == b"false".as_slice() {
+        Ok(0)
+    } else if text == b"true".as_slice() {
+        Ok(1)
+    } else {
+        Err(ValueFault::BadNumber)
     }
 }
 
-/// The number that digits stand for, where it has 128 bits.
-fn number(text: &[u8]) -> Option<u128>
-    requires { list_all is_digit text.now ≡ true }
-    ensures { SomeIff result (digits_value 10 text.now < 2 ^ 128) (digits_value 10 text.now) }
+fn read_address(kind: Kind, text: &[u8]) -> Result<u128, ValueFault>
+    ensures { result ≡ parsed_address kind text.now }
 {
-    let mut n: u128 = 0;
-    let mut rest = text;
-    'digits: while let [first, after @ ..] = rest {
-        let digit = u128::from(*first - b'0');
-        if n > (u128::MAX - digit) / 10 {
-            return None;
-        }
-        n = n * 10 + digit;
-        rest = after;
+    match text {
+        [b'0', b'x', digits @ ..] => match read_numeral(Base::Sixteen, digits) {
+            Ok(n) => up_to(mask(kind), n),
+            Err(fault) => Err(fault),
+        },
+        _ => Err(ValueFault::BadNumber),
     }
-    Some(n)
 }
 
-/// The value of a kind that a text spells. Unsigned integers so far.
+/// The value of a kind that a text spells. Each value has one text: a decimal number without leading zeros, with a
+/// minus below 0; `true` or `false`; `0x` and lower-case hexadecimal digits of an address.
 #[tactic(auto, unfolding(crate::specs::Value::parsed_value))]
 pub fn read_value(kind: Kind, text: &[u8]) -> Result<u128, ValueFault>
-    requires kind { IsKind kind }
-    requires unsigned { (kind.class ≡ class.Int) × (kind.signed ≡ false) }
+    requires { IsKind kind }
     ensures { result ≡ parsed_value kind text.now }
 {
-    if !is_natural(text) {
-        return Err(if is_negative(text) {
-            ValueFault::OutOfRange
-        } else {
-            ValueFault::BadNumber
-        });
-    }
-    match number(text) {
-        Some(v) if v <= mask(kind) => Ok(v),
-        _ => Err(ValueFault::OutOfRange),
+    match kind.class {
+        Class::Int => read_integer(kind, text),
+        Class::Bool => read_bool(text),
+        Class::Ptr => read_address(kind, text),
     }
 }

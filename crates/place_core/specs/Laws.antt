@@ -46,6 +46,22 @@ EntriesWithOther = (H : List Entry) (x : Entry) (c : ℕ) → x.caller ≢ c →
 abbrev pub EntriesInFront : Type 0
 EntriesInFront = (H K : List Entry) (c : ℕ) → IsPrefix H K → IsPrefix (entries_by H c) (entries_by K c)
 
+-- ---- callers within a bound
+
+abbrev pub CallersOfNone : Type 0
+CallersOfNone = (n : ℕ) → CallersWithin (λ (x : Entry). x.caller) n []
+
+-- one more entry
+abbrev pub CallersWithOneMore : Type 0
+CallersWithOneMore = (H : List Entry) (x : Entry) (n : ℕ) → CallersWithin (λ (y : Entry). y.caller) n (H ++ x ∷ []) ↔ (CallersWithin (λ (y : Entry). y.caller) n H × (x.caller ≤ n))
+
+-- a bound may be raised
+abbrev pub CallersWithinMore : Type 0
+CallersWithinMore = (H : List Entry) (n m : ℕ) → n ≤ m → CallersWithin (λ (x : Entry). x.caller) n H → CallersWithin (λ (x : Entry). x.caller) m H
+
+abbrev pub CallersInFront : Type 0
+CallersInFront = (H K : List Entry) (n : ℕ) → IsPrefix H K → CallersWithin (λ (x : Entry). x.caller) n K → CallersWithin (λ (x : Entry). x.caller) n H
+
 -- a caller whose number is above all in the history has no entry in it
 abbrev pub EntriesOfNew : Type 0
 EntriesOfNew = (H : List Entry) (n c : ℕ) → CallersWithin (λ (x : Entry). x.caller) n H → suc n ≤ c → entries_by H c ≡ []

@@ -1,5 +1,5 @@
 -- Calls made one after another over a plain list of numbers.
-use Rattle.std.specs.Prelude.{◌≡◌, ℕ, zero, suc, ◌+◌, List, [], ◌∷◌, ◌++◌, length, map, slice_index, slice_set, slice_get, IsSomeAnd, false}
+use Rattle.std.specs.Prelude.{ℕ, zero, suc, ◌+◌, List, [], ◌∷◌, ◌++◌, map, slice_index, slice_set, slice_get, IsSomeAnd, false}
 use Rattle.std.specs.List.{AllByRecursion}
 use Rattle.op_table.specs.declared.kind.Kind.{Kind}
 use Rattle.op_table.specs.declared.kind.Width.TheVariants.{W1}

@@ -2,6 +2,7 @@
 use Rattle.std.specs.Prelude.{◌≡◌, ℕ, ◌+◌, List, [], ◌∷◌, ◌++◌, length, map}
 use Rattle.op_table.specs.declared.call.Call.{Call}
 use Rattle.op_table.specs.declared.call.Call.TheVariants.{Load}
+use Rattle.op_table.specs.declared.call.Reply.{Reply}
 use Rattle.place_core.specs.declared.entry.Entry.{Entry}
 use Rattle.place_core.specs.declared.script.Line.{Line}
 use Rattle.place_core.specs.Histories.{CallersWithin}
@@ -14,6 +15,15 @@ made_of x = (x.object, x.call)
 -- the object and the call that a line asks for
 abbrev pub asked_of : Line → ℕ × Call
 asked_of line = (line.object, line.call)
+
+-- the replies of a caller, in order
+abbrev pub replies_by : List Entry → ℕ → List Reply
+replies_by H c = map (λ (x : Entry). x.reply) (entries_by H c)
+
+-- the replies of each thread, the first of them with number i
+abbrev pub replies_from : List Entry → ℕ → List (List Line) → List (List Reply)
+replies_from H i [] = []
+replies_from H i (script ∷ scripts) = replies_by H i ∷ replies_from H (i + 1) scripts
 
 -- each thread, the first of them with number i, made its script's calls, once and in order
 abbrev pub FollowScripts : List Entry → ℕ → List (List Line) → Type 0

@@ -1,6 +1,6 @@
 //! Laws over histories: each is the clause of a function that does nothing.
 
-ghost use Rattle.place_core.specs.Laws.{EmptyIsLegal, LegalWithOneMore, LegalInFront, ValueAtStart, ValueAfterOwn, ValueAfterOther, EntriesOfNone, EntriesWithOwn, EntriesWithOther, EntriesInFront, EntriesOfNew, PlainIsRun, PlainIsOnlyRun};
+ghost use Rattle.place_core.specs.Laws.{EmptyIsLegal, LegalWithOneMore, LegalInFront, ValueAtStart, ValueAfterOwn, ValueAfterOther, EntriesOfNone, EntriesWithOwn, EntriesWithOther, EntriesInFront, CallersOfNone, CallersWithOneMore, CallersWithinMore, CallersInFront, EntriesOfNew, PlainIsRun, PlainIsOnlyRun};
 
 /// The empty history is legal.
 pub fn empty_is_legal()
@@ -50,6 +50,26 @@ pub fn entries_with_other()
 /// The own entries of a prefix are a prefix of the own entries.
 pub fn entries_in_front()
     ensures { EntriesInFront }
+{}
+
+/// The empty history has its callers within every bound.
+pub fn callers_of_none()
+    ensures { CallersOfNone }
+{}
+
+/// The callers of a history with one more entry are within a bound exactly where its callers were and the entry's is.
+pub fn callers_with_one_more()
+    ensures { CallersWithOneMore }
+{}
+
+/// A bound on the callers may be raised.
+pub fn callers_within_more()
+    ensures { CallersWithinMore }
+{}
+
+/// The callers of a prefix are within each bound on the whole.
+pub fn callers_in_front()
+    ensures { CallersInFront }
 {}
 
 /// A caller with a new number has no entries.

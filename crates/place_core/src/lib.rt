@@ -6,6 +6,8 @@ pub mod laws;
 mod name;
 mod replies;
 mod script;
+#[cfg(test)]
+mod tests;
 
 pub use entry::Entry;
 pub use name::{Declared, Name};

@@ -16,14 +16,15 @@ pub struct Name {
 }
 
 impl Model for Name {
-    ghost use Rattle.std.specs.Prelude.{◌≡◌, ◌-◌, ◌≤◌, ◌++◌, ℕ, List, length, take, drop, replicate};
+    ghost use Rattle.std.specs.Prelude.{◌≡◌, ◌-◌, ◌≤◌, ◌++◌, ℕ, List, length, take, drop, replicate, true};
+    ghost use Rattle.place_core.specs.Name.{is_name};
     ghost use Rattle.place_core.specs.Packed.{packed_len, packed_cells};
 
     ghost Value = { List ℕ };
 
     ghost view = { λ n. take n.len n.buf };
 
-    ghost invariant = { λ n. (length n.buf ≡ 16) × (n.len ≤ 16) × (drop n.len n.buf ≡ replicate (16 - n.len) 0) };
+    ghost invariant = { λ n. (length n.buf ≡ 16) × (n.len ≤ 16) × (drop n.len n.buf ≡ replicate (16 - n.len) 0) × (is_name (take n.len n.buf) ≡ true) };
 
     ghost inverse = { λ bytes. record { buf = bytes ++ replicate (16 - length bytes) 0; len = length bytes } };
 
@@ -60,8 +61,8 @@ fn is_name(text: &[u8]) -> bool
 }
 
 impl Name {
-    ghost use Rattle.std.specs.Prelude.{◌≡◌, ◌≤◌};
-    ghost use Rattle.place_core.specs.Name.{name_of};
+    ghost use Rattle.std.specs.Prelude.{◌≡◌, ◌≤◌, length, true};
+    ghost use Rattle.place_core.specs.Name.{is_name, name_of};
 
     /// The name that the bytes are; None exactly where they are none.
     pub fn of(text: &[u8]) -> Option<Name>
@@ -82,6 +83,7 @@ impl Name {
     pub fn bytes(&self) -> &[u8]
         ensures value { result.now ≡ self.now }
         ensures short { length result.now ≤ 16 }
+        ensures named { is_name self.now ≡ true }
     {
         &self.buf[..self.len]
     }

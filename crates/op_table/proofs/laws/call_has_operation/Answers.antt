@@ -1,0 +1,5 @@
+use Rattle.op_table.proofs.WordTables.{call_has_operation}
+use Rattle.op_table.proofs.laws.call_has_operation.Goals as goal
+
+pub returns : goal.returns
+returns c = call_has_operation

@@ -1,0 +1,345 @@
+//! The words of kinds and operations.
+
+ghost use Rattle.std.specs.Prelude.{◌≡◌};
+ghost use Rattle.op_table.specs.Kind.{IsKind};
+ghost use Rattle.op_table.specs.Call.{CallFits};
+ghost use Rattle.op_table.specs.Words.{among, of_lengths, kind_word, kind_of_word, operation_word, operation_rows, operation_of_word, has_operation, operation_of, call_word};
+
+use crate::call::Call;
+use crate::kind::{Class, Kind, Width};
+
+/// What a call word stands for. A word with `fetch_` replies the value before, and its short form is quiet. The
+/// bytewise ones are the sums of a pointer.
+#[derive(Clone, Copy, Debug, PartialEq, Eq)]
+pub enum Operation {
+    Load,
+    Store,
+    Swap,
+    CompareExchange,
+    CompareExchangeWeak,
+    FetchAdd,
+    Add,
+    FetchSub,
+    Sub,
+    FetchAnd,
+    And,
+    FetchNand,
+    FetchOr,
+    Or,
+    FetchXor,
+    Xor,
+    FetchMax,
+    FetchMin,
+    FetchNot,
+    Not,
+    FetchNeg,
+    Neg,
+    BitSet,
+    BitClear,
+    BitToggle,
+    FetchByteAdd,
+    FetchByteSub,
+}
+
+/// The word that is printed of a kind.
+pub fn kind_word(kind: Kind) -> &'static str
+    requires { IsKind kind }
+    ensures { result.now ≡ kind_word kind }
+{
+    match kind.class {
+        Class::Bool => "bool",
+        Class::Ptr => "ptr",
+        Class::Int => match (kind.signed, kind.width) {
+            (true, Width::W8) => "i8",
+            (true, Width::W16) => "i16",
+            (true, Width::W32) => "i32",
+            (true, Width::W64) => "i64",
+            (true, Width::W128) => "i128",
+            (false, Width::W8) => "u8",
+            (false, Width::W16) => "u16",
+            (false, Width::W32) => "u32",
+            (false, Width::W64) => "u64",
+            (false, Width::W128) => "u128",
+            (_, Width::W1) => unreachable!(),
+        },
+    }
+}
+
+fn of_parts(class: Class, signed: bool, width: Width) -> Kind
+    ensures { result ≡ record { width = width; signed = signed; class = class } }
+{
+    Kind {
+        width,
+        signed,
+        class,
+    }
+}
+
+/// The kind that a word stands for; `isize` and `usize` are `i64` and `u64`. None: it is the word of none.
+#[tactic(auto, unfolding(crate::specs::Words::kind_of_word))]
+pub fn kind_of_word(word: &[u8]) -> Option<Kind>
+    ensures { result ≡ kind_of_word word.now }
+{
+    if word == b"bool".as_slice() {
+        Some(of_parts(Class::Bool, false, Width::W1))
+    } else if word == b"i8".as_slice() {
+        Some(of_parts(Class::Int, true, Width::W8))
+    } else if word == b"i16".as_slice() {
+        Some(of_parts(Class::Int, true, Width::W16))
+    } else if word == b"i32".as_slice() {
+        Some(of_parts(Class::Int, true, Width::W32))
+    } else if word == b"i64".as_slice() {
+        Some(of_parts(Class::Int, true, Width::W64))
+    } else if word == b"i128".as_slice() {
+        Some(of_parts(Class::Int, true, Width::W128))
+    } else if word == b"u8".as_slice() {
+        Some(of_parts(Class::Int, false, Width::W8))
+    } else if word == b"u16".as_slice() {
+        Some(of_parts(Class::Int, false, Width::W16))
+    } else if word == b"u32".as_slice() {
+        Some(of_parts(Class::Int, false, Width::W32))
+    } else if word == b"u64".as_slice() {
+        Some(of_parts(Class::Int, false, Width::W64))
+    } else if word == b"u128".as_slice() {
+        Some(of_parts(Class::Int, false, Width::W128))
+    } else if word == b"ptr".as_slice() {
+        Some(of_parts(Class::Ptr, false, Width::W64))
+    } else if word == b"isize".as_slice() {
+        Some(of_parts(Class::Int, true, Width::W64))
+    } else if word == b"usize".as_slice() {
+        Some(of_parts(Class::Int, false, Width::W64))
+    } else {
+        None
+    }
+}
+
+/// The word of an operation.
+pub fn operation_word(operation: Operation) -> &'static str
+    ensures { result.now ≡ operation_word operation }
+{
+    match operation {
+        Operation::Load => "load",
+        Operation::Store => "store",
+        Operation::Swap => "swap",
+        Operation::CompareExchange => "compare_exchange",
+        Operation::CompareExchangeWeak => "compare_exchange_weak",
+        Operation::FetchAdd => "fetch_add",
+        Operation::Add => "add",
+        Operation::FetchSub => "fetch_sub",
+        Operation::Sub => "sub",
+        Operation::FetchAnd => "fetch_and",
+        Operation::And => "and",
+        Operation::FetchNand => "fetch_nand",
+        Operation::FetchOr => "fetch_or",
+        Operation::Or => "or",
+        Operation::FetchXor => "fetch_xor",
+        Operation::Xor => "xor",
+        Operation::FetchMax => "fetch_max",
+        Operation::FetchMin => "fetch_min",
+        Operation::FetchNot => "fetch_not",
+        Operation::Not => "not",
+        Operation::FetchNeg => "fetch_neg",
+        Operation::Neg => "neg",
+        Operation::BitSet => "bit_set",
+        Operation::BitClear => "bit_clear",
+        Operation::BitToggle => "bit_toggle",
+        Operation::FetchByteAdd => "fetch_byte_add",
+        Operation::FetchByteSub => "fetch_byte_sub",
+    }
+}
+
+fn of_three(word: &[u8]) -> Option<Operation>
+    ensures { result ≡ among (of_lengths 0 3 operation_rows) word.now }
+{
+    if word == b"add".as_slice() {
+        Some(Operation::Add)
+    } else if word == b"sub".as_slice() {
+        Some(Operation::Sub)
+    } else if word == b"and".as_slice() {
+        Some(Operation::And)
+    } else if word == b"or".as_slice() {
+        Some(Operation::Or)
+    } else if word == b"xor".as_slice() {
+        Some(Operation::Xor)
+    } else if word == b"not".as_slice() {
+        Some(Operation::Not)
+    } else if word == b"neg".as_slice() {
+        Some(Operation::Neg)
+    } else {
+        None
+    }
+}
+
+fn of_eight(word: &[u8]) -> Option<Operation>
+    ensures { result ≡ among (of_lengths 4 8 operation_rows) word.now }
+{
+    if word == b"load".as_slice() {
+        Some(Operation::Load)
+    } else if word == b"store".as_slice() {
+        Some(Operation::Store)
+    } else if word == b"swap".as_slice() {
+        Some(Operation::Swap)
+    } else if word == b"fetch_or".as_slice() {
+        Some(Operation::FetchOr)
+    } else if word == b"bit_set".as_slice() {
+        Some(Operation::BitSet)
+    } else {
+        None
+    }
+}
+
+fn of_nine(word: &[u8]) -> Option<Operation>
+    ensures { result ≡ among (of_lengths 9 9 operation_rows) word.now }
+{
+    if word == b"fetch_add".as_slice() {
+        Some(Operation::FetchAdd)
+    } else if word == b"fetch_sub".as_slice() {
+        Some(Operation::FetchSub)
+    } else if word == b"fetch_and".as_slice() {
+        Some(Operation::FetchAnd)
+    } else if word == b"fetch_xor".as_slice() {
+        Some(Operation::FetchXor)
+    } else if word == b"fetch_max".as_slice() {
+        Some(Operation::FetchMax)
+    } else if word == b"fetch_min".as_slice() {
+        Some(Operation::FetchMin)
+    } else if word == b"fetch_not".as_slice() {
+        Some(Operation::FetchNot)
+    } else if word == b"fetch_neg".as_slice() {
+        Some(Operation::FetchNeg)
+    } else if word == b"bit_clear".as_slice() {
+        Some(Operation::BitClear)
+    } else {
+        None
+    }
+}
+
+fn of_more(word: &[u8]) -> Option<Operation>
+    ensures { result ≡ among (of_lengths 10 21 operation_rows) word.now }
+{
+    if word == b"compare_exchange".as_slice() {
+        Some(Operation::CompareExchange)
+    } else if word == b"compare_exchange_weak".as_slice() {
+        Some(Operation::CompareExchangeWeak)
+    } else if word == b"fetch_nand".as_slice() {
+        Some(Operation::FetchNand)
+    } else if word == b"bit_toggle".as_slice() {
+        Some(Operation::BitToggle)
+    } else if word == b"fetch_byte_add".as_slice() {
+        Some(Operation::FetchByteAdd)
+    } else if word == b"fetch_byte_sub".as_slice() {
+        Some(Operation::FetchByteSub)
+    } else {
+        None
+    }
+}
+
+/// The operation that a word stands for. None: it is the word of none.
+pub fn operation_of_word(word: &[u8]) -> Option<Operation>
+    ensures { result ≡ operation_of_word word.now }
+{
+    // A word is compared with those of about its length only.
+    let len = word.len();
+    if len <= 3 {
+        of_three(word)
+    } else if len <= 8 {
+        of_eight(word)
+    } else if len <= 9 {
+        of_nine(word)
+    } else if len <= 21 {
+        of_more(word)
+    } else {
+        None
+    }
+}
+
+/// Whether objects of a class have an operation.
+pub fn has_operation(class: Class, operation: Operation) -> bool
+    ensures { result ≡ has_operation class operation }
+{
+    match operation {
+        Operation::Load
+        | Operation::Store
+        | Operation::Swap
+        | Operation::CompareExchange
+        | Operation::CompareExchangeWeak => true,
+        Operation::FetchAnd | Operation::FetchOr | Operation::FetchXor => true,
+        Operation::And
+        | Operation::FetchNand
+        | Operation::Or
+        | Operation::Xor
+        | Operation::FetchNot
+        | Operation::Not => class != Class::Ptr,
+        Operation::BitSet | Operation::BitClear | Operation::BitToggle => class != Class::Bool,
+        Operation::FetchByteAdd | Operation::FetchByteSub => class == Class::Ptr,
+        _ => class == Class::Int,
+    }
+}
+
+/// The operation that a call of a kind is.
+pub fn operation_of(kind: Kind, call: &Call) -> Operation
+    requires kind { IsKind kind }
+    requires call { CallFits kind call.now }
+    ensures { result ≡ operation_of kind call.now }
+{
+    let bytewise = kind.class == Class::Ptr;
+    match call {
+        Call::Load => Operation::Load,
+        Call::Store(_) => Operation::Store,
+        Call::Swap(_) => Operation::Swap,
+        Call::Cas(_, _) => Operation::CompareExchange,
+        Call::CasWeak(_, _) => Operation::CompareExchangeWeak,
+        Call::Add(_, _) if bytewise => Operation::FetchByteAdd,
+        Call::Add(_, quiet) => if *quiet {
+            Operation::Add
+        } else {
+            Operation::FetchAdd
+        },
+        Call::Sub(_, _) if bytewise => Operation::FetchByteSub,
+        Call::Sub(_, quiet) => if *quiet {
+            Operation::Sub
+        } else {
+            Operation::FetchSub
+        },
+        Call::And(_, quiet) => if *quiet {
+            Operation::And
+        } else {
+            Operation::FetchAnd
+        },
+        Call::Nand(_) => Operation::FetchNand,
+        Call::Or(_, quiet) => if *quiet {
+            Operation::Or
+        } else {
+            Operation::FetchOr
+        },
+        Call::Xor(_, quiet) => if *quiet {
+            Operation::Xor
+        } else {
+            Operation::FetchXor
+        },
+        Call::Max(_) => Operation::FetchMax,
+        Call::Min(_) => Operation::FetchMin,
+        Call::Not(quiet) => if *quiet {
+            Operation::Not
+        } else {
+            Operation::FetchNot
+        },
+        Call::Neg(quiet) => if *quiet {
+            Operation::Neg
+        } else {
+            Operation::FetchNeg
+        },
+        Call::BitSet(_) => Operation::BitSet,
+        Call::BitClear(_) => Operation::BitClear,
+        Call::BitToggle(_) => Operation::BitToggle,
+    }
+}
+
+/// The word of a call of a kind. A pointer's sums are `fetch_byte_add` and `fetch_byte_sub`.
+pub fn call_word(kind: Kind, call: &Call) -> &'static str
+    requires kind { IsKind kind }
+    requires call { CallFits kind call.now }
+    ensures { result.now ≡ call_word kind call.now }
+{
+    operation_word(operation_of(kind, call))
+}

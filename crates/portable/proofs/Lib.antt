@@ -1,0 +1,4 @@
+mod CellItems
+mod Answering
+mod Readings
+mod Serving

@@ -1,0 +1,10 @@
+use Rattle.std.proofs.Common.{◌≡◌, ◌++◌, length}
+use Rattle.place_core.specs.Plain.{starts_of}
+use Rattle.work_lang.specs.Workload.{cells_of}
+use Rattle.portable.proofs.plain.starts.Given as goal
+
+abbrev pub invariant-objects : goal.invariant-objects
+invariant-objects l = l.values.items ++ starts_of (cells_of l.rest) ≡ starts_of (cells_of l.objects)
+
+abbrev pub decreases-objects : goal.decreases-objects
+decreases-objects l = length l.rest

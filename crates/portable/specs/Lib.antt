@@ -1,0 +1,5 @@
+pub mod Form
+pub mod Outside
+pub mod Fits
+pub mod Ran
+pub mod Status

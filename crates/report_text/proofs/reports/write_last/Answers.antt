@@ -1,0 +1,34 @@
+use Rattle.std.proofs.Common.{arith}
+use Rattle.work_lang.proofs.Pieces.{wrote_more, wrote_stops, wrote_all}
+use Rattle.report_text.proofs.Walks.{all_at, get_at, pairs_at, pairs_length}
+use Rattle.report_text.proofs.LineSteps.{last_lines_at, last_lines_end}
+use Rattle.report_text.proofs.reports.write_last.Goals as goal
+
+pub bounds-objects-i : goal.bounds-objects-i
+bounds-objects-i g c = omega (arith, pairs_length _ c.args.objects.now c.args.last.now.items c.requires.answers)
+
+pub write_last_value-requires-clause-sound : goal.write_last_value-requires-clause-sound
+write_last_value-requires-clause-sound g c =
+    let there = get_at c.args.objects.now c.objects.i c.index-objects-i.result (omega (arith, pairs_length _ c.args.objects.now c.args.last.now.items c.requires.answers)) c.index-objects-i.is in
+    all_at _ c.args.objects.now c.objects.i c.index-objects-i.result c.requires.sound there
+
+pub write_last_value-requires-clause-fits : goal.write_last_value-requires-clause-fits
+write_last_value-requires-clause-fits g c =
+    let there = get_at c.args.objects.now c.objects.i c.index-objects-i.result (omega (arith, pairs_length _ c.args.objects.now c.args.last.now.items c.requires.answers)) c.index-objects-i.is in
+    pairs_at _ c.args.objects.now c.args.last.now.items c.objects.i c.index-objects-i.result c.at.result.now c.requires.answers there c.at.ensures
+
+pub returns-in-Err : goal.returns-in-Err
+returns-in-Err g c =
+    let there = get_at c.args.objects.now c.objects.i c.index-objects-i.result (omega (arith, pairs_length _ c.args.objects.now c.args.last.now.items c.requires.answers)) c.index-objects-i.is in
+    wrote_stops _ (last_lines_at c.args.objects.now c.args.last.now.items c.objects.i c.index-objects-i.result c.at.result.now there c.at.ensures) c.in-Err.is c.objects.invariant.wrote c.write_last_value.ensures
+
+pub objects-preserved : goal.objects-preserved
+objects-preserved g c =
+    let there = get_at c.args.objects.now c.objects.i c.index-objects-i.result (omega (arith, pairs_length _ c.args.objects.now c.args.last.now.items c.requires.answers)) c.index-objects-i.is in
+    record {
+      within = omega arith;
+      wrote = wrote_more (last_lines_at c.args.objects.now c.args.last.now.items c.objects.i c.index-objects-i.result c.at.result.now there c.at.ensures) c.in-Ok.is c.objects.invariant.wrote c.write_last_value.ensures;
+    }
+
+pub returns : goal.returns
+returns g c = wrote_all _ (last_lines_end c.args.objects.now c.args.last.now.items c.objects.i (omega (arith, pairs_length _ c.args.objects.now c.args.last.now.items c.requires.answers))) c.objects.invariant.wrote

@@ -1,0 +1,165 @@
+//! Writing reports.
+
+ghost use Rattle.std.specs.Prelude.{◌≡◌, ◌+◌, ◌<◌, ◌≤◌, ◌++◌, ◌∷◌, [], length, map, slice_get, IsSomeAnd};
+ghost use Rattle.std.specs.List.{AllByRecursion};
+ghost use Rattle.op_table.specs.Kind.{IsKind};
+ghost use Rattle.op_table.specs.Call.{ReplyFits};
+ghost use Rattle.work_lang.specs.Streams.{Writes};
+ghost use Rattle.work_lang.specs.Workload.{IsObject, LineFits, HasLine};
+ghost use Rattle.work_lang.specs.Reading.{kind_at};
+ghost use Rattle.report_text.specs.Report.{reply_line, reply_lines, thread_head, thread_lines, last_line, last_lines, lines_with, AnswerLines, AnswerThreads, AnswerObjects, items_of};
+
+use crate::replies::push_reply;
+use op_table::{LineBuf, Reply};
+use place_core::{Declared, Line, Replies, Script};
+use work_lang::{Sink, Work, WriteEnd, push_call, write_all};
+
+/// Writes a call with its reply.
+fn write_reply<K: Sink>(
+    objects: &[Declared],
+    line: &Line,
+    reply: &Reply,
+    sink: &mut K,
+) -> Result<(), WriteEnd>
+    requires line { IsSomeAnd (slice_get objects.now line.now.object) (λ d. IsKind d.kind × HasLine line.now d) }
+    requires fits { ReplyFits (kind_at objects.now line.now.object) reply.now }
+    ensures { Writes K.taken K.faults sink.old sink.new result (reply_line objects.now line.now reply.now ∷ []) }
+{
+    let mut out = LineBuf::new();
+    push_call(&mut out, objects, line);
+    out.push_text(b" = ");
+    push_reply(&mut out, objects[line.object as usize].kind, reply);
+    out.push_text(b"\n");
+    write_all(out.bytes(), sink)
+}
+
+/// Writes the calls of a thread with their replies.
+fn write_calls<K: Sink>(
+    objects: &[Declared],
+    script: &Script,
+    replies: &Replies,
+    sink: &mut K,
+) -> Result<(), WriteEnd>
+    requires sound { AllByRecursion IsObject objects.now }
+    requires fits { AllByRecursion (LineFits objects.now) script.now }
+    requires answers { AnswerLines objects.now script.now replies.now.items }
+    ensures { Writes K.taken K.faults sink.old sink.new result (reply_lines objects.now script.now replies.now.items) }
+{
+    let mut i = 0;
+    'calls: while i < script.len() {
+        match write_reply(objects, script.at(i), replies.at(i), sink) {
+            Ok(()) => {}
+            Err(end) => return Err(end),
+        }
+        i += 1;
+    }
+    Ok(())
+}
+
+/// Writes the line that begins a thread.
+fn write_head<K: Sink>(number: u32, sink: &mut K) -> Result<(), WriteEnd>
+    ensures { Writes K.taken K.faults sink.old sink.new result (thread_head number ∷ []) }
+{
+    let mut out = LineBuf::new();
+    out.push_text(b"thread ");
+    out.push_number(u64::from(number));
+    out.push_text(b"\n");
+    write_all(out.bytes(), sink)
+}
+
+/// Writes the threads, counted from 1.
+fn write_threads<K: Sink>(
+    objects: &[Declared],
+    threads: &[Script],
+    replies: &[Replies],
+    sink: &mut K,
+) -> Result<(), WriteEnd>
+    requires sound { AllByRecursion IsObject objects.now }
+    requires fits { AllByRecursion (AllByRecursion (LineFits objects.now)) threads.now }
+    requires answers { AnswerThreads objects.now threads.now (map items_of replies.now) }
+    requires few { length threads.now ≤ 64 }
+    ensures { Writes K.taken K.faults sink.old sink.new result (thread_lines objects.now 1 threads.now (map items_of replies.now)) }
+{
+    let mut number = 1;
+    let mut threads = threads;
+    let mut replies = replies;
+    'threads: while let [script, next_threads @ ..] = threads {
+        let [own, next_replies @ ..] = replies else {
+            unreachable!()
+        };
+        match write_head(number, sink) {
+            Ok(()) => {}
+            Err(end) => return Err(end),
+        }
+        match write_calls(objects, script, own, sink) {
+            Ok(()) => {}
+            Err(end) => return Err(end),
+        }
+        number += 1;
+        threads = next_threads;
+        replies = next_replies;
+    }
+    Ok(())
+}
+
+/// Writes an object and what its last load replied.
+fn write_last_value<K: Sink>(object: &Declared, reply: &Reply, sink: &mut K) -> Result<(), WriteEnd>
+    requires sound { IsObject object.now }
+    requires fits { ReplyFits object.now.kind reply.now }
+    ensures { Writes K.taken K.faults sink.old sink.new result (last_line object.now reply.now ∷ []) }
+{
+    let mut out = LineBuf::new();
+    let name = object.name;
+    out.push_text(name.bytes());
+    out.push_text(b" ");
+    push_reply(&mut out, object.kind, reply);
+    out.push_text(b"\n");
+    write_all(out.bytes(), sink)
+}
+
+/// Writes the last values.
+fn write_last<K: Sink>(objects: &[Declared], last: &Replies, sink: &mut K) -> Result<(), WriteEnd>
+    requires sound { AllByRecursion IsObject objects.now }
+    requires answers { AnswerObjects objects.now last.now.items }
+    ensures { Writes K.taken K.faults sink.old sink.new result (last_lines objects.now last.now.items) }
+{
+    let mut i = 0;
+    'objects: while i < last.len() {
+        match write_last_value(&objects[i as usize], last.at(i), sink) {
+            Ok(()) => {}
+            Err(end) => return Err(end),
+        }
+        i += 1;
+    }
+    Ok(())
+}
+
+/// Writes the report of a run of the workload, line by line, each with its end as one piece: the replies of each
+/// thread, one a call in order, and the last values, one an object in declared order. It takes no memory. At Fault,
+/// which comes only where the sink's count rose, what was taken is a front of the report.
+pub fn report<K: Sink>(
+    work: &Work,
+    replies: &[Replies],
+    last: &Replies,
+    sink: &mut K,
+) -> Result<(), WriteEnd>
+    requires threads { AnswerThreads work.now.objects work.now.threads (map items_of replies.now) }
+    requires last { AnswerObjects work.now.objects last.now.items }
+    ensures { Writes K.taken K.faults sink.old sink.new result (lines_with work.now (map items_of replies.now) last.now.items) }
+{
+    let objects = work.objects();
+    let threads = work.threads();
+    match write_all(b"target full64\n", sink) {
+        Ok(()) => {}
+        Err(end) => return Err(end),
+    }
+    match write_threads(objects, threads, replies, sink) {
+        Ok(()) => {}
+        Err(end) => return Err(end),
+    }
+    match write_all(b"last\n", sink) {
+        Ok(()) => {}
+        Err(end) => return Err(end),
+    }
+    write_last(objects, last, sink)
+}

@@ -1,0 +1,122 @@
+-- A line that is read says the item, and a line that says an item is read.
+use Rattle.std.proofs.Common.{◌≡◌, ℕ, ◌<◌, ltb, true, not, ◌&&◌, eqb, List, [], ◌∷◌, length, Option, Some, None, Ok, refl, ap, subst, inl, inr}
+use Rattle.std.specs.Prelude.{codes}
+use Rattle.std.specs.Str.{bytes_eq}
+use Rattle.std.specs.Option.{is_some}
+use Rattle.std.proofs.lemmas.Bool.{ltb-true, lt-ltb, and_parts}
+use Rattle.line_words.specs.Cursor.{Cursor}
+use Rattle.op_table.specs.Value.{parsed_value}
+use Rattle.op_table.specs.declared.kind.Kind.{Kind}
+use Rattle.place_core.specs.declared.name.Declared.{Declared}
+use Rattle.place_core.specs.Name.{name_of, is_name}
+use Rattle.work_lang.specs.declared.fault.Cause.TheVariants as causes
+use Rattle.work_lang.specs.declared.item.Item.{Item}
+use Rattle.work_lang.specs.declared.item.Item.TheVariants as items
+use Rattle.work_lang.specs.Limits.{most_objects, most_threads}
+use Rattle.work_lang.specs.Slips.{word_at, end_at, need_at, check_at, value_at}
+use Rattle.work_lang.specs.Workload.{object_of, kind_of_word, HasKind, IsObject}
+use Rattle.work_lang.specs.Reading.{version_at, target_at, object_at, thread_at}
+use Rattle.work_lang.specs.Spelling.{IsSaid}
+use Rattle.work_lang.proofs.Steps.{check_then, word_then, end_then, need_then, value_then, chosen, ok_is, some_is, none_some, is_word, no_words}
+use Rattle.work_lang.proofs.Values.{kind_is_one, value_fits}
+
+two : (w v a b : List ℕ) (ws rest : List (List ℕ)) → w ≡ a → ws ≡ v ∷ rest → v ≡ b → rest ≡ [] → w ∷ ws ≡ a ∷ b ∷ []
+two w v a b ws rest e f g h = cc
+
+pub version_takes : (w : List ℕ) (c : Cursor) (i : Item) → version_at w c ≡ Ok i → (items.Version ≡ i) × (w ∷ c.left ≡ codes "work" ∷ codes "1" ∷ [])
+unfolding version_at
+version_takes w c i e =
+    let a = check_then c causes.Version (bytes_eq w (codes "work")) _ i e in
+    let b = word_then c _ i a.1 in
+    let d = check_then _ causes.Version (bytes_eq b.0 (codes "1")) _ i b.3 in
+    let f = end_then _ _ i d.1 in
+    (ok_is _ _ f.1, two _ _ _ _ _ _ (is_word _ _ a.0) b.2 (is_word _ _ d.0) f.0)
+
+pub version_again : (c : Cursor) → c.left ≡ codes "1" ∷ [] → version_at (codes "work") c ≡ Ok items.Version
+unfolding version_at check_at word_at end_at
+version_again c e = rw e refl
+
+pub target_takes : (w : List ℕ) (c : Cursor) (i : Item) → target_at w c ≡ Ok i → (items.Target ≡ i) × (w ∷ c.left ≡ codes "target" ∷ codes "full64" ∷ [])
+unfolding target_at
+target_takes w c i e =
+    let a = check_then c causes.UnknownWord (bytes_eq w (codes "target")) _ i e in
+    let n = word_then c _ i a.1 in
+    let t = check_then _ causes.BadTarget (eqb (length n.1) 0 && bytes_eq n.0 (codes "full64")) _ i n.3 in
+    let both = and_parts (eqb (length n.1) 0) (bytes_eq n.0 (codes "full64")) t.0 in
+    (ok_is _ _ t.1, two _ _ _ _ _ _ (is_word _ _ a.0) n.2 (is_word _ _ both.1) (no_words _ both.0))
+
+pub target_again : (c : Cursor) → c.left ≡ codes "full64" ∷ [] → target_at (codes "target") c ≡ Ok items.Target
+unfolding target_at check_at word_at
+target_again c e = rw e refl
+
+-- ---- objects
+
+name_takes : (w name : List ℕ) → name_of w ≡ Some name → (w ≡ name) × (is_name name ≡ true)
+name_takes w name e =
+    elim (chosen (is_name w) (Some w) None (Some name) e) [
+      | inl p ↦ (some_is w name p.1, subst (λ v. is_name v ≡ true) (some_is w name p.1) p.0)
+      | inr p ↦ absurd (none_some p.1)
+    ]
+
+name_again : (w : List ℕ) → is_name w ≡ true → name_of w ≡ Some w
+name_again w e = rw e refl
+
+-- the words of a line, one by one
+four : (w v u a : List ℕ) (ws rest more last : List (List ℕ)) → ws ≡ w ∷ rest → w ≡ a → rest ≡ v ∷ more → more ≡ u ∷ last → last ≡ [] → ws ≡ a ∷ v ∷ u ∷ []
+four w v u a ws rest more last e1 e2 e3 e4 e5 = cc
+
+is_none_from : {A : Type 0} (o : Option A) → not (is_some o) ≡ true → o ≡ None
+is_none_from None e = refl
+is_none_from (Some x) e = absurd cc
+
+pub record TakesObject (objects : List Declared) (d : Declared) (ws : List (List ℕ)) : Type 0 where
+  pub few : length objects < most_objects
+  pub is_name : is_name d.name ≡ true
+  pub new : object_of objects d.name ≡ None
+  pub object : IsObject d
+  pub said : IsSaid objects (items.Object d) (codes "object" ∷ ws)
+
+abbrev declared : List ℕ → Kind → ℕ → Declared
+declared name kind start = record { name = name; kind = kind; start = start }
+
+pub object_takes : (objects : List Declared) (c : Cursor) (i : Item) → object_at objects c ≡ Ok i → (d : Declared) × (items.Object d ≡ i) × TakesObject objects d c.left
+unfolding object_at
+object_takes objects c i e =
+    let a = check_then c causes.Limit (ltb (length objects) most_objects) _ i e in
+    let n = word_then c _ i a.1 in
+    let m = need_then _ causes.UnknownWord (name_of n.0) _ i n.3 in
+    let t = check_then _ causes.Twice (not (is_some (object_of objects n.0))) _ i m.2 in
+    let k = word_then _ _ i t.1 in
+    let kind = need_then _ causes.UnknownWord (kind_of_word k.0) _ i k.3 in
+    let v = word_then _ _ i kind.2 in
+    let s = value_then _ (parsed_value kind.0 v.0) _ i v.3 in
+    let f = end_then _ _ i s.2 in
+    let name = name_takes n.0 m.0 m.1 in
+    let has : HasKind kind.0 = (k.0, kind.1) in (
+      declared m.0 kind.0 s.0,
+      ok_is (items.Object (declared m.0 kind.0 s.0)) i f.1,
+      record {
+        few = ltb-true _ _ a.0;
+        is_name = name.1;
+        new = subst (λ (w : List ℕ). object_of objects w ≡ None) name.0 (is_none_from _ t.0);
+        object = (kind_is_one kind.0 has, has, value_fits kind.0 v.0 s.0 has s.1);
+        said = (k.0, v.0, kind.1, s.1, ap (λ (ws : List (List ℕ)). codes "object" ∷ ws) (four _ _ _ _ _ _ _ _ n.2 name.0 k.2 v.2 f.0));
+      },
+    )
+
+pub object_again : (objects : List Declared) (d : Declared) (kind value : List ℕ) (k : ℕ) → length objects < most_objects → is_name d.name ≡ true → object_of objects d.name ≡ None → kind_of_word kind ≡ Some d.kind → parsed_value d.kind value ≡ Ok d.start → object_at objects (record { taken = k; left = d.name ∷ kind ∷ value ∷ [] }) ≡ Ok (items.Object d)
+unfolding object_at check_at word_at end_at need_at value_at
+object_again objects d kind value k few named new kind-is value-is = rw (lt-ltb _ _ few, name_again d.name named, new, kind-is, value-is) refl
+
+-- ---- threads
+
+pub thread_takes : (threads : ℕ) (c : Cursor) (i : Item) → thread_at threads c ≡ Ok i → (items.Thread ≡ i) × (threads < most_threads) × (c.left ≡ [])
+unfolding thread_at
+thread_takes threads c i e =
+    let a = check_then c causes.Limit (ltb threads most_threads) _ i e in
+    let f = end_then _ _ i a.1 in
+    (ok_is _ _ f.1, ltb-true _ _ a.0, f.0)
+
+pub thread_again : (threads k : ℕ) → threads < most_threads → thread_at threads (record { taken = k; left = [] }) ≡ Ok items.Thread
+unfolding thread_at check_at end_at
+thread_again threads k few = rw (lt-ltb _ _ few) refl

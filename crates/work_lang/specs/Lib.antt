@@ -1,0 +1,13 @@
+pub mod Faults
+pub mod Streams
+pub mod Memory
+pub mod Limits
+pub mod Workload
+pub mod Fault
+pub mod Slips
+pub mod Reading
+pub mod Spelling
+pub mod Kept
+pub mod Index
+pub mod Print
+pub mod Laws

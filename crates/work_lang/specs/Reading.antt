@@ -1,0 +1,228 @@
+-- Reading a workload line by line, up to the first fault: the table of places of faults.
+-- In each definition the causes stand in the order in which they are looked at.
+use Rattle.std.specs.Prelude.{ℕ, ◌≡◌, ◌+◌, Bool, false, not, ◌&&◌, ◌==◌, List, [], ◌∷◌, ◌++◌, length, nat_le, nat_lt, slice_index, slice_get, Option, Some, None, Result, Ok, Err, codes, if◌then◌else◌}
+use Rattle.std.specs.List.{list_all, sum_by}
+use Rattle.std.specs.Str.{bytes_eq}
+use Rattle.std.specs.Option.{is_some}
+use Rattle.line_words.specs.Text.{words_of, lines_of}
+use Rattle.line_words.specs.Cursor.{Cursor, at_end}
+use Rattle.line_words.specs.Steps.{◌>>=◌}
+use Rattle.op_table.specs.declared.kind.Kind.{Kind}
+use Rattle.op_table.specs.declared.call.Call.{Call}
+use Rattle.op_table.specs.declared.call.Call.TheVariants.{Load, Add}
+use Rattle.op_table.specs.declared.order.Order.{Order}
+use Rattle.op_table.specs.declared.order.Order.TheVariants.{SeqCst}
+use Rattle.op_table.specs.Value.{parsed_value}
+use Rattle.place_core.specs.declared.name.Declared.{Declared}
+use Rattle.place_core.specs.declared.script.Line.{Line}
+use Rattle.place_core.specs.Name.{name_of}
+use Rattle.work_lang.specs.declared.fault.Cause.{Cause}
+use Rattle.work_lang.specs.declared.fault.Cause.TheVariants as causes
+use Rattle.work_lang.specs.declared.fault.Slip.{Slip}
+use Rattle.work_lang.specs.declared.fault.LineFault.{LineFault}
+use Rattle.work_lang.specs.declared.fault.LineFault.TheVariants as faults
+use Rattle.work_lang.specs.declared.fault.WorkFault.{WorkFault}
+use Rattle.work_lang.specs.declared.fault.WorkFault.TheVariants as texts
+use Rattle.work_lang.specs.declared.item.Item.{Item}
+use Rattle.work_lang.specs.declared.item.Item.TheVariants as items
+use Rattle.work_lang.specs.declared.item.Awaits.{Awaits}
+use Rattle.work_lang.specs.declared.item.Awaits.TheVariants as awaits
+use Rattle.work_lang.specs.Limits.{most_bytes, most_objects, most_threads, most_calls, most_calls_in_all}
+use Rattle.work_lang.specs.Slips.{slip, word_at, end_at, need_at, check_at, value_at}
+use Rattle.work_lang.specs.Workload.{Workload, object_of, u64_kind, kind_of_word}
+
+-- ---- lines, each from its first word w on
+
+unfoldable pub version_at : List ℕ → Cursor → Result Item Slip
+version_at w c = do
+  _ ← check_at c causes.Version (bytes_eq w (codes "work"))
+  v ← word_at c
+  _ ← check_at v.1 causes.Version (bytes_eq v.0 (codes "1"))
+  _ ← end_at v.1
+  Ok items.Version
+
+-- so far there is one target; a line of more words is no name
+unfoldable pub target_at : List ℕ → Cursor → Result Item Slip
+target_at w c = do
+  _ ← check_at c causes.UnknownWord (bytes_eq w (codes "target"))
+  n ← word_at c
+  _ ← check_at n.1 causes.BadTarget (at_end n.1 && bytes_eq n.0 (codes "full64"))
+  Ok items.Target
+
+unfoldable pub object_at : List Declared → Cursor → Result Item Slip
+object_at objects c = do
+  _ ← check_at c causes.Limit (nat_lt (length objects) most_objects)
+  n ← word_at c
+  name ← need_at n.1 causes.UnknownWord (name_of n.0)
+  _ ← check_at n.1 causes.Twice (not (is_some (object_of objects n.0)))
+  k ← word_at n.1
+  kind ← need_at k.1 causes.UnknownWord (kind_of_word k.0)
+  v ← word_at k.1
+  start ← value_at v.1 (parsed_value kind v.0)
+  _ ← end_at v.1
+  Ok (items.Object (record { name = name; kind = kind; start = start }))
+
+unfoldable pub thread_at : ℕ → Cursor → Result Item Slip
+thread_at threads c = do
+  _ ← check_at c causes.Limit (nat_lt threads most_threads)
+  _ ← end_at c
+  Ok items.Thread
+
+-- a call's word and its operands
+unfoldable pub operation_at : Kind → List ℕ → Cursor → Result (Call × Cursor) Slip
+operation_at kind w c =
+    if bytes_eq w (codes "load") then Ok (Load, c)
+    else if bytes_eq w (codes "fetch_add") then (do
+      v ← word_at c
+      n ← value_at v.1 (parsed_value kind v.0)
+      Ok (Add n false, v.1))
+    else slip c.taken causes.UnknownWord
+
+-- the order, which may be left out
+unfoldable pub order_at : Cursor → Result Order Slip
+order_at c =
+    if at_end c then Ok SeqCst else (do
+      w ← word_at c
+      _ ← check_at w.1 causes.Extra (bytes_eq w.0 (codes "seq_cst"))
+      _ ← end_at w.1
+      Ok SeqCst)
+
+-- the kind of a declared object
+abbrev pub kind_in : Option Declared → Kind
+kind_in None = u64_kind
+kind_in (Some d) = d.kind
+
+abbrev pub kind_at : List Declared → ℕ → Kind
+kind_at objects o = kind_in (slice_get objects o)
+
+unfoldable pub call_at : List Declared → ℕ → ℕ → List ℕ → Cursor → Result Item Slip
+call_at objects calls all w c = do
+  object ← need_at c causes.UnknownName (object_of objects w)
+  _ ← check_at c causes.Limit (nat_lt calls most_calls && nat_lt all most_calls_in_all)
+  o ← word_at c
+  call ← operation_at (kind_at objects object) o.0 o.1
+  order ← order_at call.1
+  Ok (items.Call (record { object = object; call = call.0; success = order; failure = None }))
+
+-- ---- what is awaited
+
+pub record State : Type 0 where
+  pub awaits : Awaits
+  pub objects : List Declared
+  -- the threads that are closed
+  pub threads : List (List Line)
+  -- the lines of the thread that is open
+  pub lines : List Line
+
+abbrev pub start : State
+start = record { awaits = awaits.Version; objects = []; threads = []; lines = [] }
+
+-- the calls of all threads so far
+abbrev pub all_calls : State → ℕ
+all_calls s = sum_by length s.threads + length s.lines
+
+unfoldable pub first_thread_at : State → List ℕ → Cursor → Result Item Slip
+first_thread_at s w c =
+    if bytes_eq w (codes "object") then object_at s.objects c
+    else if bytes_eq w (codes "thread") then thread_at (length s.threads) c
+    else slip c.taken causes.UnknownWord
+
+unfoldable pub next_thread_at : State → List ℕ → Cursor → Result Item Slip
+next_thread_at s w c =
+    if bytes_eq w (codes "thread") then thread_at (length s.threads) c
+    else slip c.taken causes.UnknownWord
+
+unfoldable pub in_thread_at : State → List ℕ → Cursor → Result Item Slip
+in_thread_at s w c =
+    if bytes_eq w (codes "end") then (do
+      _ ← end_at c
+      Ok items.End)
+    else call_at s.objects (length s.lines) (all_calls s) w c
+
+abbrev pub awaited_at : Awaits → State → List ℕ → Cursor → Result Item Slip
+awaited_at awaits.Version s w c = version_at w c
+awaited_at awaits.Target s w c = target_at w c
+awaited_at awaits.Object s w c = first_thread_at s w c
+awaited_at awaits.Thread s w c = next_thread_at s w c
+awaited_at awaits.Call s w c = in_thread_at s w c
+
+-- what a line says whose first word is w
+unfoldable pub item_at : State → List ℕ → Cursor → Result Item Slip
+item_at s w c = awaited_at s.awaits s w c
+
+abbrev pub is_comment : List ℕ → Bool
+is_comment w = slice_index w 0 == 35
+
+abbrev pub is_printable : ℕ → Bool
+is_printable b = nat_le 32 b && nat_le b 126
+
+-- a line without words, and a comment, say nothing
+abbrev pub said_by : State → List (List ℕ) → Result (Option Item) Slip
+said_by s [] = Ok None
+said_by s (w ∷ ws) = if is_comment w then Ok None else (do
+  item ← item_at s w (record { taken = 1; left = ws })
+  Ok (Some item))
+
+-- what a line says, if anything; its bytes are looked at first
+unfoldable pub content_at : State → List ℕ → Result (Option Item) Slip
+content_at s line = if list_all is_printable line then said_by s (words_of line) else slip 0 causes.NotAscii
+
+-- the state after an item
+abbrev pub next : State → Item → State
+next s items.Version = record s { awaits = awaits.Target }
+next s items.Target = record s { awaits = awaits.Object }
+next s (items.Object d) = record s { objects = s.objects ++ d ∷ [] }
+next s items.Thread = record s { awaits = awaits.Call }
+next s (items.Call l) = record s { lines = s.lines ++ l ∷ [] }
+next s items.End = record s { awaits = awaits.Thread; threads = s.threads ++ s.lines ∷ []; lines = [] }
+
+abbrev pub next_if : State → Option Item → State
+next_if s None = s
+next_if s (Some item) = next s item
+
+unfoldable pub after_line : State → List ℕ → Result State Slip
+after_line s line = do
+  said ← content_at s line
+  Ok (next_if s said)
+
+-- what a step over a line returned and left is what reading gives, unless memory was wanting
+abbrev pub Moves : Result (Unit {0}) LineFault → State → Result State Slip → Type 0
+Moves (Ok _) new read = read ≡ Ok new
+Moves (Err (faults.Slip s)) new read = read ≡ Err s
+Moves (Err faults.NoMemory) new read = Unit {0}
+
+-- ---- whole texts
+
+pub record Fault : Type 0 where
+  pub line : ℕ
+  pub word : ℕ
+  pub cause : Cause
+
+abbrev pub at_line : {A : Type 0} → ℕ → Result A Slip → Result A Fault
+at_line n (Ok x) = Ok x
+at_line n (Err s) = Err (record { line = n; word = s.word; cause = s.cause })
+
+-- the end of a text of n lines
+abbrev pub ended : Awaits → State → ℕ → Result Workload Fault
+ended awaits.Version s n = Err (record { line = n; word = 0; cause = causes.Missing })
+ended awaits.Target s n = Err (record { line = n; word = 0; cause = causes.Missing })
+ended awaits.Call s n = Err (record { line = n; word = 0; cause = causes.Unclosed })
+ended awaits.Object s n = Ok (record { objects = s.objects; threads = s.threads })
+ended awaits.Thread s n = Ok (record { objects = s.objects; threads = s.threads })
+
+-- the rest of a text after n lines that left s
+unfoldable pub run : State → ℕ → List (List ℕ) → Result Workload Fault
+run s n [] = ended s.awaits s n
+run s n (line ∷ lines) = do
+  t ← at_line (n + 1) (after_line s line)
+  run t (n + 1) lines
+
+-- the workload that a text spells, or its first fault
+unfoldable pub reading_of : List ℕ → Result Workload Fault
+reading_of text = if nat_lt most_bytes (length text) then Err (record { line = 0; word = 0; cause = causes.TooLong }) else run start 0 (lines_of text)
+
+-- what reading a text returned is its reading, unless memory was wanting
+abbrev pub Reads : Result Workload WorkFault → Result Workload Fault → Type 0
+Reads (Ok w) read = read ≡ Ok w
+Reads (Err (texts.Text line word why)) read = read ≡ Err (record { line = line; word = word; cause = why })
+Reads (Err texts.NoMemory) read = Unit {0}

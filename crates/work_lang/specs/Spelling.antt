@@ -1,0 +1,65 @@
+-- What a text spells: a relation between its lines and a workload, which follows no reader.
+use Rattle.std.specs.Prelude.{ℕ, ◌≡◌, ◌≤◌, ◌⊎◌, Bool, true, false, not, List, [], ◌∷◌, ◌++◌, length, map, filter, slice_get, Some, IsSomeAnd, Ok, codes}
+use Rattle.std.specs.List.{flat_map, list_all, AllByRecursion}
+use Rattle.line_words.specs.Text.{words_of, lines_of}
+use Rattle.op_table.specs.declared.kind.Kind.{Kind}
+use Rattle.op_table.specs.declared.call.Call.{Call}
+use Rattle.op_table.specs.Value.{parsed_value}
+use Rattle.place_core.specs.declared.name.Declared.{Declared}
+use Rattle.place_core.specs.declared.script.Line.{Line}
+use Rattle.work_lang.specs.declared.item.Item.{Item}
+use Rattle.work_lang.specs.declared.item.Item.TheVariants as items
+use Rattle.work_lang.specs.Limits.{most_bytes}
+use Rattle.work_lang.specs.Workload.{Workload, IsWork, parts_of, kind_of_word}
+use Rattle.work_lang.specs.Reading.{is_comment, is_printable}
+
+-- the lists are equally long, and the relation holds of each pair
+abbrev pub Pairs : {A B : Type 0} → (A → B → Type 0) → List A → List B → Type 0
+Pairs R [] [] = Unit {0}
+Pairs R [] (y ∷ ys) = ⊥
+Pairs R (x ∷ xs) [] = ⊥
+Pairs R (x ∷ xs) (y ∷ ys) = R x y × Pairs R xs ys
+
+-- ---- lines
+
+-- the word is followed by texts of the operands
+abbrev pub IsWordWith : Kind → List ℕ × List ℕ → List (List ℕ) → Type 0
+IsWordWith kind parts ws = (values : List (List ℕ)) × Pairs (λ operand value. parsed_value kind value ≡ Ok operand) parts.1 values × (ws ≡ parts.0 ∷ values)
+
+-- the words of a call: its word, and texts of its operands
+abbrev pub IsOperation : Kind → Call → List (List ℕ) → Type 0
+IsOperation kind call ws = IsSomeAnd (parts_of call) (λ parts. IsWordWith kind parts ws)
+
+-- the words of the orders, which may be left out
+abbrev pub AreOrders : List (List ℕ) → Type 0
+AreOrders ws = (ws ≡ []) ⊎ (ws ≡ codes "seq_cst" ∷ [])
+
+-- the words of a line that says an item, where these objects stand
+abbrev pub IsSaid : List Declared → Item → List (List ℕ) → Type 0
+IsSaid objects items.Version ws = ws ≡ codes "work" ∷ codes "1" ∷ []
+IsSaid objects items.Target ws = ws ≡ codes "target" ∷ codes "full64" ∷ []
+IsSaid objects (items.Object d) ws = (kind value : List ℕ) × (kind_of_word kind ≡ Some d.kind) × (parsed_value d.kind value ≡ Ok d.start) × (ws ≡ codes "object" ∷ d.name ∷ kind ∷ value ∷ [])
+IsSaid objects items.Thread ws = ws ≡ codes "thread" ∷ []
+IsSaid objects (items.Call l) ws = (d : Declared) × (slice_get objects l.object ≡ Some d) × (call orders : List (List ℕ)) × IsOperation d.kind l.call call × AreOrders orders × (ws ≡ d.name ∷ (call ++ orders))
+IsSaid objects items.End ws = ws ≡ codes "end" ∷ []
+
+-- whether a line with these words is not passed over
+abbrev pub speaks : List (List ℕ) → Bool
+speaks [] = false
+speaks (w ∷ ws) = not (is_comment w)
+
+-- ---- workloads
+
+abbrev pub thread_items : List Line → List Item
+thread_items lines = items.Thread ∷ (map items.Call lines ++ items.End ∷ [])
+
+-- what the lines of a workload say, in order
+abbrev pub items_of : Workload → List Item
+items_of w = items.Version ∷ items.Target ∷ (map items.Object w.objects ++ flat_map thread_items w.threads)
+
+-- the bytes spell the workload: they are printable, and the lines that are not passed over say its items, in order
+pub record Spells (text : List ℕ) (w : Workload) : Type 0 where
+  pub short : length text ≤ most_bytes
+  pub printable : AllByRecursion (λ line. list_all is_printable line ≡ true) (lines_of text)
+  pub work : IsWork w
+  pub lines : Pairs (IsSaid w.objects) (items_of w) (filter speaks (map words_of (lines_of text)))

@@ -1,0 +1,268 @@
+//! Reading a workload line by line.
+
+ghost use Rattle.std.specs.Prelude.{◌≡◌, ◌<◌, ◌≤◌, ◌^◌, length, OnOk, IfOk, Ok};
+ghost use Rattle.std.specs.List.{list_all};
+ghost use Rattle.line_words.specs.Steps.{Gives};
+ghost use Rattle.work_lang.specs.Workload.{Workload};
+ghost use Rattle.work_lang.specs.Reading.{State, start, first_thread_at, next_thread_at, in_thread_at, item_at, is_comment, is_printable, content_at, next, after_line, Moves, ended, reading_of, Reads};
+ghost use Rattle.work_lang.specs.Spelling.{Spells};
+ghost use Rattle.work_lang.specs.Kept.{Allowed, IsKept};
+
+use crate::fault::{Cause, LineFault, Slip, WorkFault};
+use crate::item::{self, Awaits, Item};
+use crate::limits::MOST_BYTES;
+use crate::objects::Objects;
+use crate::words::{end, fail};
+use crate::work::Work;
+use line_words::{Words, line_at};
+use op_table::NoMemory;
+use place_core::Script;
+use std::alloc::{AllocFailed, Global};
+use std::marker::Model;
+
+/// What was read so far.
+#[derive(Drop)]
+struct Reader {
+    alloc: Global,
+    awaits: Awaits,
+    objects: Objects,
+    /// The threads that are closed.
+    threads: Vec<Script>,
+    /// The lines of the thread that is open.
+    lines: Script,
+    /// The calls of all threads.
+    calls: u32,
+}
+
+impl Model for Reader {
+    ghost use Rattle.std.specs.Prelude.{length, ◌≡◌, ◌+◌};
+    ghost use Rattle.std.specs.List.{sum_by};
+    ghost use Rattle.work_lang.specs.Reading.{State};
+
+    ghost Value = { State };
+
+    ghost view = { λ r. record { awaits = r.awaits; objects = r.objects; threads = r.threads.items; lines = r.lines } };
+
+    ghost invariant = { λ r. r.calls ≡ sum_by length r.threads.items + length r.lines };
+}
+
+fn is_printable(line: &[u8]) -> bool
+    ensures { result ≡ list_all is_printable line.now }
+{
+    line.iter().all(|byte| 32 <= *byte && *byte <= 126)
+}
+
+fn is_comment(word: &[u8]) -> bool
+    ensures { result ≡ is_comment word.now }
+{
+    match word.first() {
+        Some(byte) => *byte == b'#',
+        None => false,
+    }
+}
+
+impl Reader {
+    fn new(alloc: Global) -> Reader
+        ensures { result ≡ start }
+    {
+        Reader {
+            alloc,
+            awaits: Awaits::Version,
+            objects: Objects::new(alloc),
+            threads: Vec::new(alloc),
+            lines: Script::new(alloc),
+            calls: 0,
+        }
+    }
+
+    /// An object or the first thread.
+    #[tactic(auto, unfolding(crate::specs::Reading::first_thread_at))]
+    fn first_thread_item(&self, word: &[u8], words: &mut Words<'_>) -> Result<Item, Slip>
+        ensures { Gives (λ x. x) result (first_thread_at self.now word.now words.old) }
+    {
+        if word == b"object".as_slice() {
+            item::object_item(&self.objects, words)
+        } else if word == b"thread".as_slice() {
+            item::thread_item(self.threads.len(), words)
+        } else {
+            fail(words, Cause::UnknownWord)
+        }
+    }
+
+    /// A thread after the first.
+    #[tactic(auto, unfolding(crate::specs::Reading::next_thread_at))]
+    fn next_thread_item(&self, word: &[u8], words: &mut Words<'_>) -> Result<Item, Slip>
+        ensures { Gives (λ x. x) result (next_thread_at self.now word.now words.old) }
+    {
+        if word == b"thread".as_slice() {
+            item::thread_item(self.threads.len(), words)
+        } else {
+            fail(words, Cause::UnknownWord)
+        }
+    }
+
+    /// A call or the end of the thread.
+    #[tactic(auto, unfolding(crate::specs::Reading::in_thread_at))]
+    fn in_thread_item(&self, word: &[u8], words: &mut Words<'_>) -> Result<Item, Slip>
+        ensures { Gives (λ x. x) result (in_thread_at self.now word.now words.old) }
+    {
+        if word == b"end".as_slice() {
+            end(words)?;
+            Ok(Item::End)
+        } else {
+            item::call_item(&self.objects, self.lines.len(), self.calls, word, words)
+        }
+    }
+
+    /// What a line says, by its first word and the others.
+    #[tactic(auto, unfolding(crate::specs::Reading::item_at))]
+    fn item(&self, word: &[u8], words: &mut Words<'_>) -> Result<Item, Slip>
+        ensures { Gives (λ x. x) result (item_at self.now word.now words.old) }
+    {
+        match self.awaits {
+            Awaits::Version => item::version_item(word, words),
+            Awaits::Target => item::target_item(word, words),
+            Awaits::Object => self.first_thread_item(word, words),
+            Awaits::Thread => self.next_thread_item(word, words),
+            Awaits::Call => self.in_thread_item(word, words),
+        }
+    }
+
+    /// What a line says, if anything.
+    #[tactic(auto, unfolding(crate::specs::Reading::content_at))]
+    fn content(&self, line: &[u8]) -> Result<Option<Item>, Slip>
+        requires { length line.now < 2 ^ 31 }
+        ensures { Gives (λ x. x) result (content_at self.now line.now) }
+    {
+        if !is_printable(line) {
+            return Err(Slip {
+                word: 0,
+                cause: Cause::NotAscii,
+            });
+        }
+        let mut words = Words::after(0, line);
+        match words.next() {
+            None => Ok(None),
+            Some(word) => {
+                if is_comment(word) {
+                    Ok(None)
+                } else {
+                    Ok(Some(self.item(word, &mut words)?))
+                }
+            }
+        }
+    }
+
+    /// Goes on by an item. This alone takes memory.
+    fn add(&mut self, item: Item) -> Result<(), NoMemory>
+        requires { Allowed self.old item }
+        ensures { OnOk result (self.new ≡ next self.old item) }
+    {
+        match item {
+            Item::Version => self.awaits = Awaits::Target,
+            Item::Target => self.awaits = Awaits::Object,
+            Item::Object(object) => self.objects.push(object)?,
+            Item::Thread => self.awaits = Awaits::Call,
+            Item::Call(line) => {
+                self.lines.push(line)?;
+                self.calls += 1;
+            }
+            Item::End => {
+                let lines = std::mem::replace(&mut self.lines, Script::new(self.alloc));
+                if let Err(AllocFailed { value }) = self.threads.push(lines) {
+                    self.lines = value;
+                    return Err(NoMemory);
+                }
+                self.awaits = Awaits::Thread;
+            }
+        }
+        Ok(())
+    }
+
+    /// Takes the next line.
+    #[tactic(auto, unfolding(crate::specs::Reading::after_line))]
+    fn take_line(&mut self, line: &[u8]) -> Result<(), LineFault>
+        requires kept { IsKept self.old }
+        requires short { length line.now < 2 ^ 31 }
+        ensures { Moves result self.new (after_line self.old line.now) }
+    {
+        let said = self.content(line)?;
+        match said {
+            None => Ok(()),
+            Some(item) => {
+                self.add(item)?;
+                Ok(())
+            }
+        }
+    }
+
+    /// The workload, at the end of a text of so many lines.
+    fn finish(self, lines: u32) -> Result<Work, WorkFault>
+        requires { IsKept self }
+        ensures { Reads result (ended self.awaits self lines) }
+    {
+        let Reader {
+            alloc: _,
+            awaits,
+            objects,
+            threads,
+            lines: _,
+            calls: _,
+        } = self;
+        match awaits {
+            Awaits::Version | Awaits::Target => Err(WorkFault::Text {
+                line: lines,
+                word: 0,
+                cause: Cause::Missing,
+            }),
+            Awaits::Call => Err(WorkFault::Text {
+                line: lines,
+                word: 0,
+                cause: Cause::Unclosed,
+            }),
+            Awaits::Object | Awaits::Thread => Ok(Work::new(objects.into_items(), threads)),
+        }
+    }
+}
+
+/// The text line by line, up to its end or its first fault.
+fn read_lines(alloc: Global, text: &[u8]) -> Result<Work, WorkFault>
+    ensures exact { Reads result (reading_of text.now) }
+{
+    if text.len() > MOST_BYTES {
+        return Err(WorkFault::Text {
+            line: 0,
+            word: 0,
+            cause: Cause::TooLong,
+        });
+    }
+    let mut reader = Reader::new(alloc);
+    let mut rest = text;
+    let mut number: u32 = 0;
+    'lines: while !rest.is_empty() {
+        let (line, after) = line_at(rest);
+        number += 1;
+        match reader.take_line(line) {
+            Ok(()) => {}
+            Err(fault) => return Err(fault.at(number)),
+        }
+        rest = after;
+    }
+    reader.finish(number)
+}
+
+/// The workload that the text spells, or the first fault of the text, with its place. Where memory is wanting it is
+/// NoMemory, whatever the text.
+pub fn read_work(alloc: Global, text: &[u8]) -> Result<Work, WorkFault>
+    // What is read is spelled by the text.
+    ensures found { IfOk result (λ w. Spells text.now w) }
+    // What the text spells is read, unless memory is wanting.
+    ensures only { (w : Workload) → Spells text.now w → Reads result (Ok w) }
+    // Which fault it is, and at which word of which line.
+    ensures exact { Reads result (reading_of text.now) }
+{
+    read_lines(alloc, text)
+}
+
+#[cfg(test)]
+mod tests;

@@ -1,0 +1,275 @@
+//! The place of each fault, and texts that are read as the same workload. What is expected stands in the tables.
+
+use crate::fault::{Cause, WorkFault};
+use crate::reader::read_work;
+use crate::work::Work;
+use op_table::{Call, Order};
+use std::alloc::Global;
+use std::process::Abort;
+use std::test::Fail;
+
+/// Each row has a line, and the word and the cause of its fault where it is line `number`, after a text without faults.
+fn assert_places(
+    rt: &impl Abort,
+    alloc: Global,
+    before: &str,
+    number: u32,
+    rows: &str,
+) -> Result<(), Fail> {
+    for row in rows.lines() {
+        let (line, place) = row.split_once(" => ").ok_or("a row without a place")?;
+        let text = format!(in alloc; "{before}{line}")?;
+        let told = match read_work(alloc, text.as_bytes()) {
+            Ok(_) => format!(in alloc; "a workload")?,
+            Err(fault) => format!(in alloc; "{fault}")?,
+        };
+        let expected = format!(in alloc; "line {number} word {place}")?;
+        assert_eq!(rt; told.as_str(), expected.as_str(), "the line {line:?}");
+    }
+    Ok(())
+}
+
+const HEAD: &str = "work 1\ntarget full64\n";
+
+const OBJECT: &str = "work 1\ntarget full64\nobject n u64 5\n";
+
+const THREAD: &str = "work 1\ntarget full64\nobject n u64 5\nthread\n";
+
+#[test]
+fn the_head_has_its_places(rt: HostRuntime) -> Result<(), Fail> {
+    let version = "work => 2 Missing
+works 1 => 1 Version
+target full64 => 1 Version
+Work => 1 Version
+work 2 => 2 Version
+work 01 => 2 Version
+work 2 x => 2 Version
+work 1 1 => 3 Extra";
+    assert_places(&rt, rt.alloc(), "", 1, version)?;
+    let target = "work 1 => 1 UnknownWord
+thread => 1 UnknownWord
+target => 2 Missing
+target full => 2 BadTarget
+target 64 => 2 BadTarget
+target full64 x => 2 BadTarget
+target 64 apart swap 1 none => 2 BadTarget";
+    assert_places(&rt, rt.alloc(), "work 1\n", 2, target)
+}
+
+#[test]
+fn objects_have_their_places(rt: HostRuntime) -> Result<(), Fail> {
+    let rows = "target full64 => 1 UnknownWord
+end => 1 UnknownWord
+n load => 1 UnknownWord
+object => 2 Missing
+object abcdefghijklmnopq u64 0 => 2 UnknownWord
+object end u64 0 => 2 UnknownWord
+object A u64 0 => 2 UnknownWord
+object 1a u64 0 => 2 UnknownWord
+object A => 2 UnknownWord
+object n => 2 Twice
+object n u8 x => 2 Twice
+object m => 3 Missing
+object m u8 => 3 UnknownWord
+object m U64 0 => 3 UnknownWord
+object m u64 => 4 Missing
+object m u64 12x => 4 BadNumber
+object m u64 -0 => 4 BadNumber
+object m u64 007 => 4 BadNumber
+object m u64 +1 => 4 BadNumber
+object m u64 18446744073709551616 => 4 OutOfRange
+object m u64 340282366920938463463374607431768211456 => 4 OutOfRange
+object m u64 -1 x => 4 OutOfRange
+object m u64 0 0 => 5 Extra
+thread 1 => 2 Extra";
+    assert_places(&rt, rt.alloc(), OBJECT, 4, rows)
+}
+
+#[test]
+fn calls_have_their_places(rt: HostRuntime) -> Result<(), Fail> {
+    let rows = "end x => 2 Extra
+m load => 1 UnknownName
+thread => 1 UnknownName
+abcdefghijklmnopq load => 1 UnknownName
+n => 2 Missing
+n store 1 => 2 UnknownWord
+n Load => 2 UnknownWord
+n fetch_add => 3 Missing
+n fetch_add 1x => 3 BadNumber
+n fetch_add 18446744073709551616 => 3 OutOfRange
+n fetch_add -1 => 3 OutOfRange
+n fetch_add seq_cst => 3 BadNumber
+n load relaxed => 3 Extra
+n load 1 => 3 Extra
+n load seq_cst x => 4 Extra
+n fetch_add 1 acquire => 4 Extra
+n fetch_add 1 seq_cst seq_cst => 5 Extra";
+    assert_places(&rt, rt.alloc(), THREAD, 5, rows)
+}
+
+#[test]
+fn a_thread_is_the_last(rt: HostRuntime) -> Result<(), Fail> {
+    let rows = "object m u64 5 => 1 UnknownWord
+n load => 1 UnknownWord
+thread => 1 Limit
+thread x => 1 Limit";
+    let before = format!(in rt.alloc(); "{THREAD}end\n")?;
+    assert_places(&rt, rt.alloc(), &before, 6, rows)
+}
+
+#[test]
+fn bytes_are_looked_at_first(rt: HostRuntime) -> Result<(), Fail> {
+    let rows = "object n\tu64 5 => 0 NotAscii
+object n u64 5\r => 0 NotAscii
+# \u{7f} => 0 NotAscii
+# \u{e9} => 0 NotAscii
+\t => 0 NotAscii
+nosuch word \t => 0 NotAscii
+# ~ ! => 0 Unclosed";
+    assert_places(
+        &rt,
+        rt.alloc(),
+        "work 1\n# ~ !\ntarget full64\nthread\n",
+        5,
+        rows,
+    )?;
+    assert_places(
+        &rt,
+        rt.alloc(),
+        "work 1\nnosuch\n",
+        2,
+        "\t => 1 UnknownWord",
+    )
+}
+
+/// The texts end after so many lines.
+#[test]
+fn ends_have_their_places(rt: HostRuntime) -> Result<(), Fail> {
+    let alloc = rt.alloc();
+    let none = " => 0 Missing";
+    assert_places(&rt, alloc, "", 0, none)?;
+    assert_places(&rt, alloc, "\n", 1, none)?;
+    assert_places(&rt, alloc, "  ", 1, none)?;
+    assert_places(&rt, alloc, "# a\n\n", 2, none)?;
+    assert_places(&rt, alloc, "work 1\n\n# a", 3, none)?;
+    assert_places(&rt, alloc, THREAD, 4, " => 0 Unclosed")?;
+    let passed_over = format!(in alloc; "{THREAD}# end\n\n")?;
+    assert_places(&rt, alloc, &passed_over, 6, " => 0 Unclosed")
+}
+
+#[test]
+fn bytes_have_a_limit(rt: HostRuntime) -> Result<(), Fail> {
+    let mut text = vec![in rt.alloc(); b' '; 8_388_608]?;
+    let longest = read_work(rt.alloc(), &text).err();
+    assert_eq!(rt;
+        longest,
+        Some(WorkFault::Text {
+            line: 1,
+            word: 0,
+            cause: Cause::Missing
+        })
+    );
+    text.push(b'\n')?;
+    let longer = read_work(rt.alloc(), &text).err();
+    assert_eq!(rt;
+        longer,
+        Some(WorkFault::Text {
+            line: 0,
+            word: 0,
+            cause: Cause::TooLong
+        })
+    );
+    Ok(())
+}
+
+#[test]
+fn objects_have_a_limit(rt: HostRuntime) -> Result<(), Fail> {
+    let mut text = String::from_str(rt.alloc(), HEAD)?;
+    for number in 0..1024 {
+        text.push_str(&format!(in rt.alloc(); "object o{number} u64 {number}\n")?)?;
+    }
+    assert!(rt; read_work(rt.alloc(), text.as_bytes()).is_ok());
+    let rows = "object m u64 0 => 1 Limit
+object => 1 Limit
+thread 1 => 2 Extra";
+    assert_places(&rt, rt.alloc(), &text, 1027, rows)
+}
+
+#[test]
+fn calls_have_a_limit(rt: HostRuntime) -> Result<(), Fail> {
+    let mut text = String::from_str(rt.alloc(), THREAD)?;
+    for _ in 0..65_536 {
+        text.push_str("n load\n")?;
+    }
+    let rows = "n load => 1 Limit
+n nosuch => 1 Limit
+m load => 1 UnknownName
+end x => 2 Extra";
+    assert_places(&rt, rt.alloc(), &text, 65_541, rows)?;
+    text.push_str("end")?;
+    assert!(rt; read_work(rt.alloc(), text.as_bytes()).is_ok());
+    Ok(())
+}
+
+/// The workload of the texts below.
+fn assert_sample(rt: &impl Abort, work: &Work, text: &str) -> Result<(), Fail> {
+    assert_eq!(rt; work.objects().len(), 2, "objects of {text:?}");
+    for (object, name, start) in [
+        (0, "n", 5),
+        (1, "abcdefghij_12345", 18_446_744_073_709_551_615),
+    ] {
+        let object = work.objects().get(object).ok_or("no object")?;
+        assert_eq!(rt; object.name.bytes(), name.as_bytes(), "a name of {text:?}");
+        assert_eq!(rt; object.start, start, "a start of {text:?}");
+        assert_eq!(rt;
+            op_table::bits(object.kind.width),
+            64,
+            "a width of {text:?}"
+        );
+    }
+    assert_eq!(rt; work.threads().len(), 1, "threads of {text:?}");
+    let script = work.threads().first().ok_or("no script")?;
+    assert_eq!(rt; script.len(), 2, "lines of {text:?}");
+    for (number, object, call) in [(0, 1, Call::Add(7, false)), (1, 0, Call::Load)] {
+        if number < script.len() {
+            let line = script.at(number);
+            assert_eq!(rt; line.object, object, "an object of a line of {text:?}");
+            assert_eq!(rt; line.call, call, "a call of {text:?}");
+            assert_eq!(rt; line.success, Order::SeqCst, "an order of {text:?}");
+            assert_eq!(rt; line.failure, None, "a second order of {text:?}");
+        }
+    }
+    Ok(())
+}
+
+#[test]
+fn spellings_are_read_alike(rt: HostRuntime) -> Result<(), Fail> {
+    let objects = "object n u64 5\nobject abcdefghij_12345 u64 18446744073709551615\n";
+    let calls = "thread\nabcdefghij_12345 fetch_add 7\nn load\nend";
+    let alloc = rt.alloc();
+    for text in [
+        format!(in alloc; "work 1\ntarget full64\n{objects}{calls}\n")?,
+        format!(in alloc; "work 1\ntarget full64\n{objects}{calls}")?,
+        format!(in alloc;
+            "\n  work   1  \n#work 2\n target full64\n\n{objects}   # x\n{calls}\n\n#"
+        )?,
+        format!(in alloc;
+            "work 1\ntarget full64\n{objects}thread\nabcdefghij_12345  fetch_add 7 seq_cst\n n  load seq_cst \nend\n"
+        )?,
+    ] {
+        assert_sample(&rt, &read_work(alloc, text.as_bytes())?, &text)?;
+    }
+    Ok(())
+}
+
+#[test]
+fn faults_are_told(rt: HostRuntime) -> Result<(), Fail> {
+    let fault = WorkFault::Text {
+        line: 12,
+        word: 3,
+        cause: Cause::UnknownWord,
+    };
+    let told = format!(in rt.alloc(); "{fault}")?;
+    assert_eq!(rt; told.as_str(), "line 12 word 3 UnknownWord");
+    Ok(())
+}

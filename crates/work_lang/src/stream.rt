@@ -1,0 +1,119 @@
+//! Where bytes come from and where they go.
+
+ghost use Rattle.std.specs.Prelude.{◌≡◌, ℕ, ◌<◌, ◌≤◌, List, [], ◌∷◌, length, IfOk};
+ghost use Rattle.std.specs.Io.{ReadsAtMost, WritesAtMost};
+ghost use Rattle.std.specs.Io.KnownBytes.{ReadConsumes, WriteAppends};
+ghost use Rattle.std.specs.declared.option.Option.{Option};
+ghost use Rattle.work_lang.specs.Faults.{last_count, Rose, HasCause};
+ghost use Rattle.work_lang.specs.Streams.{most_read, ReadsAll, LosesFront, Writes};
+
+use std::alloc::Global;
+
+/// A read or a write failed. Nothing was read or taken, and the count of faults rose.
+#[derive(Clone, Copy, Debug, PartialEq, Eq)]
+pub struct Failed;
+
+/// Where bytes come from.
+pub trait Source {
+    /// The bytes that are left, where the source tells them.
+    ghost left: { Self → Option (List ℕ) };
+
+    /// How often a read has failed. It never falls, and stands still at 2^64 - 1.
+    ghost faults: { Self → ℕ };
+
+    /// Reads bytes into the front of the buffer, and says how many; none in a buffer that isn't empty is the end.
+    /// After `Failed` the bytes left are as they were.
+    fn read(&mut self, buffer: &mut [u8]) -> Result<usize, Failed>
+        ensures bound { ReadsAtMost result buffer.new }
+        ensures bytes { ReadConsumes (left self.old) (left self.new) result buffer.new }
+        ensures cause { HasCause (faults self.old) (faults self.new) result }
+        ensures counted { faults self.new ≤ last_count };
+}
+
+/// Where bytes go.
+pub trait Sink {
+    /// The bytes that the sink took, where it tells them.
+    ghost taken: { Self → Option (List ℕ) };
+
+    /// How often a write has failed. It never falls, and stands still at 2^64 - 1.
+    ghost faults: { Self → ℕ };
+
+    /// Takes bytes from the front of the piece, and says how many: at least one of a piece that isn't empty.
+    /// After `Failed` nothing was taken.
+    fn write(&mut self, piece: &[u8]) -> Result<usize, Failed>
+        ensures bound { WritesAtMost result piece.now }
+        ensures progress { IfOk result (λ n. 0 < length piece.now → 0 < n) }
+        ensures bytes { WriteAppends (taken self.old) (taken self.new) result piece.now }
+        ensures cause { HasCause (faults self.old) (faults self.new) result }
+        ensures counted { faults self.new ≤ last_count };
+}
+
+/// Why reading to the end stopped early.
+#[derive(Clone, Copy, Debug, PartialEq, Eq)]
+pub enum ReadEnd {
+    /// The source failed.
+    Fault,
+    /// There was no memory for what was read.
+    NoMemory,
+}
+
+/// Why writing stopped early.
+#[derive(Clone, Copy, Debug, PartialEq, Eq)]
+pub enum WriteEnd {
+    /// The sink failed.
+    Fault,
+}
+
+/// One byte more than a text may have.
+const MOST_READ: usize = 8_388_609;
+
+/// How many bytes are asked for at a time.
+const READ_SIZE: usize = 65_536;
+
+/// Reads to the end, or until 8,388,609 bytes were read; the rest is left unread. Fault comes only where the
+/// source's count rose in this call; what was read before stays read.
+pub fn read_all<S: Source>(alloc: Global, source: &mut S) -> Result<Vec<u8>, ReadEnd>
+    ensures bytes { IfOk result (λ v. ReadsAll S.left source.old source.new v.items) }
+    ensures short { IfOk result (λ v. length v.items ≤ most_read) }
+    ensures front { LosesFront S.left source.old source.new }
+    ensures fault { result ≡ Err ReadEnd.Fault → Rose (S.faults source.old) (S.faults source.new) }
+    ensures later { S.faults source.old ≤ S.faults source.new }
+{
+    let mut all = Vec::new(alloc);
+    let mut buffer = [0u8; READ_SIZE];
+    'reads: while all.len() < MOST_READ {
+        let want = (MOST_READ - all.len()).min(READ_SIZE);
+        let room = &mut buffer[..want];
+        match source.read(room) {
+            Err(Failed) => return Err(ReadEnd::Fault),
+            Ok(0) => return Ok(all),
+            Ok(count) => {
+                if all.extend_from_slice(&room[..count]).is_err() {
+                    return Err(ReadEnd::NoMemory);
+                }
+            }
+        }
+    }
+    Ok(all)
+}
+
+/// Writes a piece until all of it is taken. Fault comes only where the sink's count rose in this call; what was
+/// taken is then a front of the piece.
+pub fn write_all<K: Sink>(piece: &[u8], sink: &mut K) -> Result<(), WriteEnd>
+    ensures { Writes K.taken K.faults sink.old sink.new result (piece.now ∷ []) }
+{
+    let mut rest = piece;
+    'writes: while !rest.is_empty() {
+        match sink.write(rest) {
+            Err(Failed) => return Err(WriteEnd::Fault),
+            Ok(count) => {
+                let (_, after) = rest.split_at(count);
+                rest = after;
+            }
+        }
+    }
+    Ok(())
+}
+
+#[cfg(test)]
+mod tests;
