@@ -19,8 +19,8 @@ from pathlib import Path
 
 TOP = Path(__file__).resolve().parent.parent
 PROGRAM = TOP / "crates/portable/out/portable"
-# name, calls, objects, seed
-WORKLOADS = [("one_thread", 65_536, 1_024, 1)]
+# name, calls, objects, seed, and what else the maker of texts is told
+WORKLOADS = [("one_thread", 65_536, 1_024, 1, []), ("mixed_calls", 65_536, 1_024, 2, ["mixed"])]
 
 
 def timed(command: list, text: Path) -> tuple:
@@ -47,10 +47,10 @@ def main() -> None:
         sys.exit("build the program first: cd crates/portable && rt run -- run < ../../examples/first.work")
     with tempfile.TemporaryDirectory() as folder:
         peer = Path(folder) / "peer"
-        subprocess.run(["rustc", "-O", "-o", peer, TOP / "bench/peer.rs"], check=True)
-        for name, calls, objects, seed in WORKLOADS:
+        subprocess.run(["rustc", "--edition", "2021", "-O", "-o", peer, TOP / "bench/peer.rs"], check=True)
+        for name, calls, objects, seed, more in WORKLOADS:
             text = Path(folder) / f"{name}.work"
-            made = [sys.executable, TOP / "bench/make_text.py", str(calls), str(objects), str(seed)]
+            made = [sys.executable, TOP / "bench/make_text.py", str(calls), str(objects), str(seed), *more]
             text.write_bytes(subprocess.run(made, check=True, capture_output=True).stdout)
             ours, memory, report = median([PROGRAM, "run"], text)
             theirs, _, expected = median([peer], text)

@@ -6,3 +6,8 @@ pub mod Cells
 pub mod Runs
 pub mod Plain
 pub mod Laws
+pub mod WordSums
+pub mod Shapes
+pub mod Operations
+pub mod Validity
+pub mod ShapeLaws

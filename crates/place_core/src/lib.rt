@@ -2,14 +2,27 @@
 #![tactic(auto)]
 
 mod entry;
+mod lanes;
 pub mod laws;
 mod name;
+mod places;
 mod replies;
 mod script;
+mod serving;
+mod shape;
+pub mod shape_laws;
+#[cfg(test)]
+mod shape_tests;
 #[cfg(test)]
 mod tests;
+mod valid;
 
 pub use entry::Entry;
+pub use lanes::{lane_bits, put_lane, raised};
 pub use name::{Declared, Name};
+pub use places::{Object, Path, Place, WordOp};
 pub use replies::Replies;
 pub use script::{Line, Script};
+pub use serving::{has_step, is_sole, op_for, op_serves};
+pub use shape::{Objects, Shape, data_word, lock_word};
+pub use valid::shape_ok;

@@ -49,7 +49,7 @@ length-fit (c ∷ cells) (v ∷ values) fit = ap suc (length-fit cells values fi
 
 pub fit_starts : (ds : List Declared) → AllByRecursion IsObject ds → ValuesFit (cells_of ds) (starts_of (cells_of ds))
 fit_starts [] sound = tt
-fit_starts (d ∷ ds) sound = (sound.0.2, fit_starts ds sound.1)
+fit_starts (d ∷ ds) sound = (sound.0.1, fit_starts ds sound.1)
 
 -- after a call
 pub fit_next : (ds : List Declared) (values : List ℕ) (o : ℕ) (call : Call) (d : Declared) → slice_get ds o ≡ Some d → IsKind d.kind → CallFits d.kind call → ValuesFit (cells_of ds) values → ValuesFit (cells_of ds) (next_values (cells_of ds) values (o, call))

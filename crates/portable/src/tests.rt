@@ -4,6 +4,7 @@ use crate::real::{ReadSource, WriteSink};
 use crate::status::Status;
 use crate::top::portable_call;
 use std::alloc::Global;
+use std::process::Abort;
 use std::test::Fail;
 use work_lang::{MemSink, MemSource, Sink, Source, SureSink, SureSource};
 
@@ -174,6 +175,122 @@ fn an_addition_wraps(rt: HostRuntime) -> Result<(), Fail> {
         b"target full64\nthread 1\nn fetch_add 2 = 18446744073709551615\nm load = 7\nn load = 1\nlast\nn 1\nm 7\n";
     assert_eq!(rt; sink.bytes(), report.as_slice());
     Ok(())
+}
+
+/// Runs a text, and compares what was written.
+fn assert_report(
+    rt: &impl Abort,
+    alloc: Global,
+    objects: &str,
+    calls: &str,
+    report: &str,
+) -> Result<(), Fail> {
+    let run = words_of(alloc, &["run"])?;
+    let text = format!(in alloc; "work 1\ntarget full64\n{objects}\nthread\n{calls}\nend\n")?;
+    let mut source = SureSource::of(text.as_bytes());
+    let mut sink = sink_of(alloc, 4096, &[])?;
+    let status = portable_call(alloc, &run, &mut source, &mut sink).status;
+    assert_eq!(rt; status, Status::Done);
+    let whole = format!(in alloc; "target full64\nthread 1\n{report}\n")?;
+    assert_eq!(rt; sink.bytes(), whole.as_bytes());
+    Ok(())
+}
+
+#[test]
+fn each_kind_has_its_calls(rt: HostRuntime) -> Result<(), Fail> {
+    let objects = "object a i8 -128
+object b u8 12
+object c i16 -5
+object d u8 0
+object e u8 4
+object m u128 340282366920938463463374607431768211455";
+    let calls = "a fetch_neg
+b fetch_nand 10
+c fetch_max 3
+c fetch_min -32768
+d bit_set 3
+d bit_set 11
+e compare_exchange 3 9
+e compare_exchange 4 9
+e compare_exchange_weak 9 4
+m fetch_add 1";
+    let report = "a fetch_neg = -128
+b fetch_nand 10 = 12
+c fetch_max 3 = -5
+c fetch_min -32768 = 3
+d bit_set 3 = false
+d bit_set 11 = true
+e compare_exchange 3 9 = err 4
+e compare_exchange 4 9 = ok 4
+e compare_exchange_weak 9 4 = ok 9
+m fetch_add 1 = 340282366920938463463374607431768211455
+last
+a -128
+b 247
+c -32768
+d 8
+e 4
+m 0";
+    assert_report(&rt, rt.alloc(), objects, calls, report)
+}
+
+#[test]
+fn quiet_calls_and_pointers_are_printed(rt: HostRuntime) -> Result<(), Fail> {
+    let objects = "object f bool true
+object n isize -3
+object p ptr 0xffffffffffffffff";
+    let calls = "f xor true
+f fetch_not
+f store true
+n add 5
+n sub -1
+n not
+n neg
+p fetch_byte_add 0x11
+p fetch_byte_sub 0x1
+p fetch_and 0x1f
+p swap 0x0
+p bit_toggle 63";
+    let report = "f xor true = unit
+f fetch_not = false
+f store true = unit
+n add 5 = unit
+n sub -1 = unit
+n not = unit
+n neg = unit
+p fetch_byte_add 0x11 = 0xffffffffffffffff
+p fetch_byte_sub 0x1 = 0x10
+p fetch_and 0x1f = 0xf
+p swap 0x0 = 0xf
+p bit_toggle 63 = false
+last
+f true
+n 4
+p 0x8000000000000000";
+    assert_report(&rt, rt.alloc(), objects, calls, report)
+}
+
+#[test]
+fn orders_are_printed_where_one_is_weaker(rt: HostRuntime) -> Result<(), Fail> {
+    let calls = "n load seq_cst
+n load acquire
+n  store  1  release
+n add 1 relaxed
+n swap 2 seq_cst
+n compare_exchange 2 3 seq_cst seq_cst
+n compare_exchange 3 4 seq_cst relaxed
+n compare_exchange_weak 5 6 acq_rel acquire";
+    let report = "n load = 0
+n load acquire = 0
+n store 1 release = unit
+n add 1 relaxed = unit
+n swap 2 = 2
+n compare_exchange 2 3 = ok 2
+n compare_exchange 3 4 seq_cst relaxed = ok 3
+n compare_exchange_weak 5 6 acq_rel acquire = err 4
+last
+n 4";
+    assert_report(&rt, rt.alloc(), "object n usize 0", calls, report)
 }
 
 #[test]

@@ -14,7 +14,7 @@ use Rattle.work_lang.specs.declared.item.Item.TheVariants as items
 use Rattle.work_lang.specs.declared.item.Awaits.{Awaits}
 use Rattle.work_lang.specs.declared.item.Awaits.TheVariants as awaits
 use Rattle.work_lang.specs.Slips.{slip, end_at}
-use Rattle.work_lang.specs.Workload.{AreDeclared, HasLine, LineFits}
+use Rattle.work_lang.specs.Workload.{IsObject, HasLine, LineFits}
 use Rattle.work_lang.specs.Reading.{State, all_calls, next, next_if, awaited_at, item_at, first_thread_at, next_thread_at, in_thread_at, said_by, content_at, after_line, is_comment, is_printable, thread_at}
 use Rattle.work_lang.specs.Spelling.{IsSaid, speaks}
 use Rattle.work_lang.specs.Kept.{Allowed, IsKept}
@@ -22,7 +22,8 @@ use Rattle.work_lang.proofs.Names.{named_again, declared_is_name, name_is_not_en
 use Rattle.work_lang.proofs.Steps.{end_then, bind_then, chosen, good, ok_is, err_ok, some_is, is_word}
 use Rattle.work_lang.proofs.Lines.{version_takes, version_again, target_takes, target_again, object_takes, object_again, thread_takes, thread_again}
 use Rattle.work_lang.proofs.Calls.{call_takes, call_again}
-use Rattle.work_lang.proofs.Keeping.{step_kept}
+use Rattle.work_lang.proofs.Keeping.{AreObjects, step_kept}
+use Rattle.work_lang.proofs.Lists.{all_at}
 
 -- the item that a line with these words was read as
 pub record Takes (s : State) (i : Item) (ws : List (List ℕ)) : Type 0 where
@@ -82,7 +83,7 @@ item_takes s w c i k e = by_awaits s.awaits s w c i k refl e
 line_has : (objects : List Declared) (l : Line) (d : Declared) → slice_get objects l.object ≡ Some d → LineFits objects l → HasLine l d
 line_has objects l d e h = subst (λ (o : Option Declared). IsSomeAnd o (HasLine l)) e h
 
-pub item_again : (s : State) (w : List ℕ) (ws : List (List ℕ)) (i : Item) → AreDeclared [] s.objects → Takes s i (w ∷ ws) → item_at s w (record { taken = 1; left = ws }) ≡ Ok i
+pub item_again : (s : State) (w : List ℕ) (ws : List (List ℕ)) (i : Item) → AreObjects s.objects → Takes s i (w ∷ ws) → item_at s w (record { taken = 1; left = ws }) ≡ Ok i
 unfolding item_at first_thread_at next_thread_at in_thread_at end_at
 item_again s w ws items.Version ok t =
     let e = t.said in
@@ -112,8 +113,8 @@ item_again s w ws (items.Call l) ok t =
     let d = t.said.0 in
     let e = t.said.6 in
     let w-is : w ≡ d.name = cc in
-    let not_end : bytes_eq w (codes "end") ≡ false = rw w-is (name_is_not_end d.name (declared_is_name [] s.objects ok l.object d t.said.1)) in
-    rw (t.allowed.0, not_end) (call_again s.objects (length s.lines) (all_calls s) l d 1 w ws t.allowed.1 t.allowed.3 (line_has s.objects l d t.said.1 t.allowed.2).2 t.said.1 (named_again [] s.objects ok l.object d t.said.1 ∙ ap (λ (n : ℕ). Some n) (omega arith)) t.said.2 t.said.3 t.said.4 t.said.5 e)
+    let not_end : bytes_eq w (codes "end") ≡ false = rw w-is (name_is_not_end d.name (declared_is_name [] s.objects ok.names l.object d t.said.1)) in
+    rw (t.allowed.0, not_end) (call_again s.objects (length s.lines) (all_calls s) l d 1 w ws t.allowed.1 t.allowed.3 (all_at IsObject s.objects l.object d ok.each t.said.1).0 (line_has s.objects l d t.said.1 t.allowed.2) t.said.1 (named_again [] s.objects ok.names l.object d t.said.1 ∙ ap (λ (n : ℕ). Some n) (omega arith)) t.said.2 t.said.3 t.said.4 t.said.5 e)
 item_again s w ws items.End ok t =
     let e = t.said in
     let w-is : w ≡ codes "end" = cc in
@@ -147,7 +148,7 @@ line_takes s line t k e =
       | inr p ↦ absurd (err_ok p.1)
     ]
 
-said_again : (s : State) (ws : List (List ℕ)) (i : Item) → AreDeclared [] s.objects → speaks ws ≡ true → Takes s i ws → said_by s ws ≡ Ok (Some i)
+said_again : (s : State) (ws : List (List ℕ)) (i : Item) → AreObjects s.objects → speaks ws ≡ true → Takes s i ws → said_by s ws ≡ Ok (Some i)
 said_again s [] i ok speaking t = absurd cc
 said_again s (w ∷ ws) i ok speaking t = rw (not-true (is_comment w) speaking, item_again s w ws i ok t) refl
 
@@ -155,7 +156,7 @@ said_nothing : (s : State) (ws : List (List ℕ)) → speaks ws ≡ false → sa
 said_nothing s [] silent = refl
 said_nothing s (w ∷ ws) silent = rw (not-false (is_comment w) silent) refl
 
-pub line_again : (s : State) (line : List ℕ) (i : Item) → AreDeclared [] s.objects → list_all is_printable line ≡ true → speaks (words_of line) ≡ true → Takes s i (words_of line) → after_line s line ≡ Ok (next s i)
+pub line_again : (s : State) (line : List ℕ) (i : Item) → AreObjects s.objects → list_all is_printable line ≡ true → speaks (words_of line) ≡ true → Takes s i (words_of line) → after_line s line ≡ Ok (next s i)
 unfolding after_line content_at
 line_again s line i ok printable speaking t = rw (printable, said_again s (words_of line) i ok speaking t) refl
 

@@ -1,5 +1,6 @@
 -- What is kept from item to item.
 use Rattle.std.proofs.Common.{◌≡◌, true, List, [], ◌∷◌, ◌++◌, length, None, refl, sym, subst, arith, append_assoc}
+use Rattle.std.specs.List.{AllByRecursion}
 use Rattle.std.proofs.lemmas.List.{append-nil, length-append}
 use Rattle.std.proofs.lemmas.List.Sums.{sum_by_push}
 use Rattle.place_core.specs.declared.name.Declared.{Declared}
@@ -18,14 +19,18 @@ declared_push before [] d all named new = (named, subst (λ (objects : List Decl
 declared_push before (x ∷ xs) d all named new =
     (all.0, all.1, declared_push (before ++ x ∷ []) xs d all.2 named (subst (λ (objects : List Declared). object_of objects d.name ≡ None) (sym (append_assoc before (x ∷ []) xs)) new))
 
--- names stay apart from item to item
-pub next_declared : (s : State) (i : Item) → AreDeclared [] s.objects → Allowed s i → AreDeclared [] (next s i).objects
-next_declared s items.Version ok a = ok
-next_declared s items.Target ok a = ok
-next_declared s (items.Object d) ok a = declared_push [] s.objects d ok a.2 a.3
-next_declared s items.Thread ok a = ok
-next_declared s (items.Call l) ok a = ok
-next_declared s items.End ok a = ok
+-- the names of objects differ, and each object is one
+pub record AreObjects (objects : List Declared) : Type 0 where
+  pub names : AreDeclared [] objects
+  pub each : AllByRecursion IsObject objects
+
+pub next_objects : (s : State) (i : Item) → AreObjects s.objects → Allowed s i → AreObjects (next s i).objects
+next_objects s items.Version ok a = ok
+next_objects s items.Target ok a = ok
+next_objects s (items.Object d) ok a = record { names = declared_push [] s.objects d ok.names a.2 a.3; each = all_push IsObject s.objects d ok.each a.4 }
+next_objects s items.Thread ok a = ok
+next_objects s (items.Call l) ok a = ok
+next_objects s items.End ok a = ok
 
 pub at_awaits : (s : State) (a : Awaits) → s.awaits ≡ a → IsKept s → IsEmptyYet a s
 at_awaits s a e k = subst (λ (x : Awaits). IsEmptyYet x s) e k.empty
@@ -37,7 +42,7 @@ step_kept s items.Target k a =
     record { empty = (h.1, h.2); names = k.names; objects = k.objects; few_objects = k.few_objects; few_threads = k.few_threads; few_calls = k.few_calls; calls = k.calls; few_lines = k.few_lines; lines = k.lines; few_in_all = k.few_in_all }
 step_kept s (items.Object d) k a =
     let none = at_awaits s awaits.Object a.0 k in
-    record { empty = subst (λ (x : Awaits). IsEmptyYet x (next s (items.Object d))) (sym a.0) none; names = next_declared s (items.Object d) k.names a; objects = all_push IsObject s.objects d k.objects a.4; few_objects = omega (arith, a.1, length-append s.objects (d ∷ [])); few_threads = k.few_threads; few_calls = k.few_calls; calls = rw none.0 tt; few_lines = k.few_lines; lines = rw none.1 tt; few_in_all = k.few_in_all }
+    record { empty = subst (λ (x : Awaits). IsEmptyYet x (next s (items.Object d))) (sym a.0) none; names = declared_push [] s.objects d k.names a.2 a.3; objects = all_push IsObject s.objects d k.objects a.4; few_objects = omega (arith, a.1, length-append s.objects (d ∷ [])); few_threads = k.few_threads; few_calls = k.few_calls; calls = rw none.0 tt; few_lines = k.few_lines; lines = rw none.1 tt; few_in_all = k.few_in_all }
 step_kept s items.Thread k a = record { empty = a.1; names = k.names; objects = k.objects; few_objects = k.few_objects; few_threads = k.few_threads; few_calls = k.few_calls; calls = k.calls; few_lines = k.few_lines; lines = k.lines; few_in_all = k.few_in_all }
 step_kept s (items.Call l) k a =
     record { empty = subst (λ (x : Awaits). IsEmptyYet x (next s (items.Call l))) (sym a.0) (at_awaits s awaits.Call a.0 k); names = k.names; objects = k.objects; few_objects = k.few_objects; few_threads = k.few_threads; few_calls = k.few_calls; calls = k.calls; few_lines = omega (arith, a.1, length-append s.lines (l ∷ [])); lines = all_push (LineFits s.objects) s.lines l k.lines a.2; few_in_all = omega (arith, length-append s.lines (l ∷ []), a.3) }

@@ -3,6 +3,7 @@ pub mod Back
 pub mod CallLines
 pub mod Calls
 pub mod Firsts
+pub mod FormReads
 pub mod Found
 pub mod Indexes
 pub mod Items
@@ -10,6 +11,9 @@ pub mod Keeping
 pub mod Lines
 pub mod Lists
 pub mod Names
+pub mod OperandForms
+pub mod OperandTexts
+pub mod OrderTexts
 pub mod Pieces
 pub mod Runs
 pub mod Spelled

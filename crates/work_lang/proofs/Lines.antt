@@ -7,6 +7,9 @@ use Rattle.std.proofs.lemmas.Bool.{ltb-true, lt-ltb, and_parts}
 use Rattle.line_words.specs.Cursor.{Cursor}
 use Rattle.op_table.specs.Value.{parsed_value}
 use Rattle.op_table.specs.declared.kind.Kind.{Kind}
+use Rattle.op_table.specs.Kind.{IsKind}
+use Rattle.op_table.specs.Words.{kind_of_word}
+use Rattle.op_table.proofs.ValueTexts.{read_is_value}
 use Rattle.place_core.specs.declared.name.Declared.{Declared}
 use Rattle.place_core.specs.Name.{name_of, is_name}
 use Rattle.work_lang.specs.declared.fault.Cause.TheVariants as causes
@@ -14,11 +17,11 @@ use Rattle.work_lang.specs.declared.item.Item.{Item}
 use Rattle.work_lang.specs.declared.item.Item.TheVariants as items
 use Rattle.work_lang.specs.Limits.{most_objects, most_threads}
 use Rattle.work_lang.specs.Slips.{word_at, end_at, need_at, check_at, value_at}
-use Rattle.work_lang.specs.Workload.{object_of, kind_of_word, HasKind, IsObject}
+use Rattle.work_lang.specs.Workload.{object_of, IsObject}
 use Rattle.work_lang.specs.Reading.{version_at, target_at, object_at, thread_at}
 use Rattle.work_lang.specs.Spelling.{IsSaid}
 use Rattle.work_lang.proofs.Steps.{check_then, word_then, end_then, need_then, value_then, chosen, ok_is, some_is, none_some, is_word, no_words}
-use Rattle.work_lang.proofs.Values.{kind_is_one, value_fits}
+use Rattle.work_lang.proofs.Values.{kind_is_one}
 
 two : (w v a b : List ℕ) (ws rest : List (List ℕ)) → w ≡ a → ws ≡ v ∷ rest → v ≡ b → rest ≡ [] → w ∷ ws ≡ a ∷ b ∷ []
 two w v a b ws rest e f g h = cc
@@ -92,14 +95,14 @@ object_takes objects c i e =
     let s = value_then _ (parsed_value kind.0 v.0) _ i v.3 in
     let f = end_then _ _ i s.2 in
     let name = name_takes n.0 m.0 m.1 in
-    let has : HasKind kind.0 = (k.0, kind.1) in (
+    let is : IsKind kind.0 = kind_is_one k.0 kind.0 kind.1 in (
       declared m.0 kind.0 s.0,
       ok_is (items.Object (declared m.0 kind.0 s.0)) i f.1,
       record {
         few = ltb-true _ _ a.0;
         is_name = name.1;
         new = subst (λ (w : List ℕ). object_of objects w ≡ None) name.0 (is_none_from _ t.0);
-        object = (kind_is_one kind.0 has, has, value_fits kind.0 v.0 s.0 has s.1);
+        object = (is, read_is_value kind.0 v.0 s.0 is s.1);
         said = (k.0, v.0, kind.1, s.1, ap (λ (ws : List (List ℕ)). codes "object" ∷ ws) (four _ _ _ _ _ _ _ _ n.2 name.0 k.2 v.2 f.0));
       },
     )

@@ -46,7 +46,7 @@ reading_found text w e =
 pub reading_only : (text : List ℕ) (w : Workload) → Spells text w → reading_of text ≡ Ok w
 unfolding reading_of
 reading_only text w s =
-    rw (le-ltb most_bytes (length text) s.short) (run_again start 0 (lines_of text) (items_of w) (state_of w) tt s.printable (work_walk w (said_in (lines_of text)) s.work s.lines) ∙ work_ended w (0 + length (lines_of text)))
+    rw (le-ltb most_bytes (length text) s.short) (run_again start 0 (lines_of text) (items_of w) (state_of w) (record { names = tt; each = tt }) s.printable (work_walk w (said_in (lines_of text)) s.work s.lines) ∙ work_ended w (0 + length (lines_of text)))
 
 pub is_found : (text : List ℕ) (r : Result Workload WorkFault) → Reads r (reading_of text) → IfOk r (λ w. Spells text w)
 is_found text (Ok w) e = reading_found text w e

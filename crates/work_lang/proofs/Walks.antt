@@ -6,11 +6,11 @@ use Rattle.line_words.specs.Text.{words_of}
 use Rattle.line_words.specs.Steps.{◌>>=◌}
 use Rattle.work_lang.specs.declared.fault.Slip.{Slip}
 use Rattle.work_lang.specs.declared.item.Item.{Item}
-use Rattle.work_lang.specs.Workload.{Workload, AreDeclared}
+use Rattle.work_lang.specs.Workload.{Workload}
 use Rattle.work_lang.specs.Reading.{State, Fault, next, after_line, is_printable, at_line, ended, run}
 use Rattle.work_lang.specs.Spelling.{speaks}
 use Rattle.work_lang.specs.Kept.{IsKept}
-use Rattle.work_lang.proofs.Keeping.{next_declared}
+use Rattle.work_lang.proofs.Keeping.{AreObjects, next_objects}
 use Rattle.work_lang.proofs.Items.{Takes, LineTakes, line_takes, line_again, line_passed, line_kept}
 
 -- the lines with these words say these items, and lead from the one state to the other
@@ -51,14 +51,14 @@ run_takes s n (line ∷ lines) w k e =
 
 -- ---- and back
 
-pub run_again : (s : State) (n : ℕ) (lines : List (List ℕ)) (is : List Item) (t : State) → AreDeclared [] s.objects → AllByRecursion (λ line. list_all is_printable line ≡ true) lines → Walk s is (said_in lines) t → run s n lines ≡ ended t.awaits t (n + length lines)
+pub run_again : (s : State) (n : ℕ) (lines : List (List ℕ)) (is : List Item) (t : State) → AreObjects s.objects → AllByRecursion (λ line. list_all is_printable line ≡ true) lines → Walk s is (said_in lines) t → run s n lines ≡ ended t.awaits t (n + length lines)
 unfolding run
 run_again s n [] [] t ok printable walk = rw (walk, add-zero) refl
 run_again s n [] (i ∷ is) t ok printable walk = absurd walk
 run_again s n (line ∷ lines) is t ok printable walk =
     at (speaks (words_of line)) refl (λ s' is' ok' walk'. run_again s' (n + 1) lines is' t ok' printable.1 walk')
   where
-    at : (b : Bool) → speaks (words_of line) ≡ b → ((s : State) (is : List Item) → AreDeclared [] s.objects → Walk s is (said_in lines) t → run s (n + 1) lines ≡ ended t.awaits t (n + 1 + length lines)) → run s n (line ∷ lines) ≡ ended t.awaits t (n + length (line ∷ lines))
+    at : (b : Bool) → speaks (words_of line) ≡ b → ((s : State) (is : List Item) → AreObjects s.objects → Walk s is (said_in lines) t → run s (n + 1) lines ≡ ended t.awaits t (n + 1 + length lines)) → run s n (line ∷ lines) ≡ ended t.awaits t (n + length (line ∷ lines))
     at false e again =
         let rest = again s is ok (rw e at walk) in
         rw (line_passed s line printable.0 e) (rest ∙ ap (λ (k : ℕ). ended t.awaits t k) (omega arith))
@@ -67,5 +67,5 @@ run_again s n (line ∷ lines) is t ok printable walk =
         by_item : (is : List Item) → Walk s is (words_of line ∷ said_in lines) t → run s n (line ∷ lines) ≡ ended t.awaits t (n + length (line ∷ lines))
         by_item [] none = absurd none
         by_item (i ∷ is) walk =
-            let rest = again (next s i) is (next_declared s i ok walk.0.allowed) walk.1 in
+            let rest = again (next s i) is (next_objects s i ok walk.0.allowed) walk.1 in
             rw (line_again s line i ok printable.0 e walk.0) (rest ∙ ap (λ (k : ℕ). ended t.awaits t k) (omega arith))

@@ -2,6 +2,8 @@ pub mod Faults
 pub mod Streams
 pub mod Memory
 pub mod Limits
+pub mod Operands
+pub mod CallOrders
 pub mod Workload
 pub mod Fault
 pub mod Slips

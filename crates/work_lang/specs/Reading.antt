@@ -8,11 +8,13 @@ use Rattle.line_words.specs.Text.{words_of, lines_of}
 use Rattle.line_words.specs.Cursor.{Cursor, at_end}
 use Rattle.line_words.specs.Steps.{◌>>=◌}
 use Rattle.op_table.specs.declared.kind.Kind.{Kind}
+use Rattle.op_table.specs.declared.kind.Width.TheVariants.{W1}
+use Rattle.op_table.specs.declared.kind.Class.TheVariants as class
 use Rattle.op_table.specs.declared.call.Call.{Call}
-use Rattle.op_table.specs.declared.call.Call.TheVariants.{Load, Add}
 use Rattle.op_table.specs.declared.order.Order.{Order}
-use Rattle.op_table.specs.declared.order.Order.TheVariants.{SeqCst}
 use Rattle.op_table.specs.Value.{parsed_value}
+use Rattle.op_table.specs.Words.{kind_of_word, operation_of_word, has_operation}
+use Rattle.op_table.specs.Orders.{order_of_word, order_fits}
 use Rattle.place_core.specs.declared.name.Declared.{Declared}
 use Rattle.place_core.specs.declared.script.Line.{Line}
 use Rattle.place_core.specs.Name.{name_of}
@@ -27,9 +29,12 @@ use Rattle.work_lang.specs.declared.item.Item.{Item}
 use Rattle.work_lang.specs.declared.item.Item.TheVariants as items
 use Rattle.work_lang.specs.declared.item.Awaits.{Awaits}
 use Rattle.work_lang.specs.declared.item.Awaits.TheVariants as awaits
+use Rattle.work_lang.specs.declared.orders.Orders.{Orders}
+use Rattle.work_lang.specs.Operands.{Form, Alone, WithValue, WithPosition, WithValues, form_of, position_kind}
+use Rattle.work_lang.specs.CallOrders.{is_exchange, left_out}
 use Rattle.work_lang.specs.Limits.{most_bytes, most_objects, most_threads, most_calls, most_calls_in_all}
 use Rattle.work_lang.specs.Slips.{slip, word_at, end_at, need_at, check_at, value_at}
-use Rattle.work_lang.specs.Workload.{Workload, object_of, u64_kind, kind_of_word}
+use Rattle.work_lang.specs.Workload.{Workload, object_of}
 
 -- ---- lines, each from its first word w on
 
@@ -68,28 +73,73 @@ thread_at threads c = do
   _ ← end_at c
   Ok items.Thread
 
+-- ---- calls
+
+-- a value of a kind
+unfoldable pub number_at : Kind → Cursor → Result (ℕ × Cursor) Slip
+number_at kind c = do
+  w ← word_at c
+  v ← value_at w.1 (parsed_value kind w.0)
+  Ok (v, w.1)
+
+unfoldable pub one_operand_at : Kind → (ℕ → Call) → Cursor → Result (Call × Cursor) Slip
+one_operand_at kind call c = do
+  a ← number_at kind c
+  Ok (call a.0, a.1)
+
+unfoldable pub two_operands_at : Kind → (ℕ → ℕ → Call) → Cursor → Result (Call × Cursor) Slip
+two_operands_at kind call c = do
+  a ← number_at kind c
+  b ← number_at kind a.1
+  Ok (call a.0 b.0, b.1)
+
+-- the operands of a form, and the call that it makes of them
+unfoldable pub operands_at : Kind → Form → Cursor → Result (Call × Cursor) Slip
+operands_at kind (Alone call) c = Ok (call, c)
+operands_at kind (WithValue call) c = one_operand_at kind call c
+operands_at kind (WithPosition call) c = one_operand_at position_kind call c
+operands_at kind (WithValues call) c = two_operands_at kind call c
+
 -- a call's word and its operands
 unfoldable pub operation_at : Kind → List ℕ → Cursor → Result (Call × Cursor) Slip
-operation_at kind w c =
-    if bytes_eq w (codes "load") then Ok (Load, c)
-    else if bytes_eq w (codes "fetch_add") then (do
-      v ← word_at c
-      n ← value_at v.1 (parsed_value kind v.0)
-      Ok (Add n false, v.1))
-    else slip c.taken causes.UnknownWord
+operation_at kind w c = do
+  op ← need_at c causes.UnknownWord (operation_of_word w)
+  _ ← check_at c causes.NotForKind (has_operation kind.class op)
+  operands_at kind (form_of op) c
 
--- the order, which may be left out
-unfoldable pub order_at : Cursor → Result Order Slip
-order_at c =
-    if at_end c then Ok SeqCst else (do
-      w ← word_at c
-      _ ← check_at w.1 causes.Extra (bytes_eq w.0 (codes "seq_cst"))
-      _ ← end_at w.1
-      Ok SeqCst)
+-- a word where an order may stand
+unfoldable pub order_at : Cursor → Result (Order × Cursor) Slip
+order_at c = do
+  w ← word_at c
+  order ← need_at w.1 causes.Extra (order_of_word w.0)
+  Ok (order, w.1)
 
--- the kind of a declared object
+unfoldable pub one_order_at : Call → Cursor → Result Orders Slip
+one_order_at call c = do
+  o ← order_at c
+  _ ← check_at o.1 causes.BadOrder (order_fits call o.0 None)
+  _ ← end_at o.1
+  Ok (record { success = o.0; failure = None })
+
+-- an exchange accepts every order for its success, so only its failure order can be a bad one
+unfoldable pub two_orders_at : Call → Cursor → Result Orders Slip
+two_orders_at call c = do
+  s ← order_at c
+  f ← order_at s.1
+  _ ← check_at f.1 causes.BadOrder (order_fits call s.0 (Some f.0))
+  _ ← end_at f.1
+  Ok (record { success = s.0; failure = Some f.0 })
+
+-- the orders, which may be left out, both of an exchange
+unfoldable pub orders_at : Call → Cursor → Result Orders Slip
+orders_at call c =
+    if at_end c then Ok (left_out call)
+    else if is_exchange call then two_orders_at call c
+    else one_order_at call c
+
+-- the kind of an object; where there is none no kind is meant
 abbrev pub kind_in : Option Declared → Kind
-kind_in None = u64_kind
+kind_in None = record { width = W1; signed = false; class = class.Bool }
 kind_in (Some d) = d.kind
 
 abbrev pub kind_at : List Declared → ℕ → Kind
@@ -101,8 +151,8 @@ call_at objects calls all w c = do
   _ ← check_at c causes.Limit (nat_lt calls most_calls && nat_lt all most_calls_in_all)
   o ← word_at c
   call ← operation_at (kind_at objects object) o.0 o.1
-  order ← order_at call.1
-  Ok (items.Call (record { object = object; call = call.0; success = order; failure = None }))
+  orders ← orders_at call.0 call.1
+  Ok (items.Call (record { object = object; call = call.0; success = orders.success; failure = orders.failure }))
 
 -- ---- what is awaited
 

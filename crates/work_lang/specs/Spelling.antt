@@ -1,16 +1,21 @@
 -- What a text spells: a relation between its lines and a workload, which follows no reader.
-use Rattle.std.specs.Prelude.{ℕ, ◌≡◌, ◌≤◌, ◌⊎◌, Bool, true, false, not, List, [], ◌∷◌, ◌++◌, length, map, filter, slice_get, Some, IsSomeAnd, Ok, codes}
+use Rattle.std.specs.Prelude.{ℕ, ◌≡◌, ◌≤◌, ◌⊎◌, Bool, true, false, not, List, [], ◌∷◌, ◌++◌, length, map, filter, slice_get, Some, Ok, codes}
 use Rattle.std.specs.List.{flat_map, list_all, AllByRecursion}
 use Rattle.line_words.specs.Text.{words_of, lines_of}
 use Rattle.op_table.specs.declared.kind.Kind.{Kind}
 use Rattle.op_table.specs.declared.call.Call.{Call}
+use Rattle.op_table.specs.declared.order.Order.{Order}
 use Rattle.op_table.specs.Value.{parsed_value}
+use Rattle.op_table.specs.Words.{kind_of_word, call_word}
+use Rattle.op_table.specs.Orders.{order_word}
 use Rattle.place_core.specs.declared.name.Declared.{Declared}
 use Rattle.place_core.specs.declared.script.Line.{Line}
 use Rattle.work_lang.specs.declared.item.Item.{Item}
 use Rattle.work_lang.specs.declared.item.Item.TheVariants as items
+use Rattle.work_lang.specs.Operands.{Operand, operands_of}
+use Rattle.work_lang.specs.CallOrders.{orders_of, are_seq_cst}
 use Rattle.work_lang.specs.Limits.{most_bytes}
-use Rattle.work_lang.specs.Workload.{Workload, IsWork, parts_of, kind_of_word}
+use Rattle.work_lang.specs.Workload.{Workload, IsWork}
 use Rattle.work_lang.specs.Reading.{is_comment, is_printable}
 
 -- the lists are equally long, and the relation holds of each pair
@@ -22,17 +27,13 @@ Pairs R (x ∷ xs) (y ∷ ys) = R x y × Pairs R xs ys
 
 -- ---- lines
 
--- the word is followed by texts of the operands
-abbrev pub IsWordWith : Kind → List ℕ × List ℕ → List (List ℕ) → Type 0
-IsWordWith kind parts ws = (values : List (List ℕ)) × Pairs (λ operand value. parsed_value kind value ≡ Ok operand) parts.1 values × (ws ≡ parts.0 ∷ values)
-
 -- the words of a call: its word, and texts of its operands
 abbrev pub IsOperation : Kind → Call → List (List ℕ) → Type 0
-IsOperation kind call ws = IsSomeAnd (parts_of call) (λ parts. IsWordWith kind parts ws)
+IsOperation kind call ws = (texts : List (List ℕ)) × Pairs (λ (o : Operand) text. parsed_value o.kind text ≡ Ok o.value) (operands_of kind call) texts × (ws ≡ call_word kind call ∷ texts)
 
--- the words of the orders, which may be left out
-abbrev pub AreOrders : List (List ℕ) → Type 0
-AreOrders ws = (ws ≡ []) ⊎ (ws ≡ codes "seq_cst" ∷ [])
+-- the words of the orders: all of them, or none where all are sequentially consistent
+abbrev pub AreOrders : List Order → List (List ℕ) → Type 0
+AreOrders orders ws = (ws ≡ map order_word orders) ⊎ ((are_seq_cst orders ≡ true) × (ws ≡ []))
 
 -- the words of a line that says an item, where these objects stand
 abbrev pub IsSaid : List Declared → Item → List (List ℕ) → Type 0
@@ -40,7 +41,7 @@ IsSaid objects items.Version ws = ws ≡ codes "work" ∷ codes "1" ∷ []
 IsSaid objects items.Target ws = ws ≡ codes "target" ∷ codes "full64" ∷ []
 IsSaid objects (items.Object d) ws = (kind value : List ℕ) × (kind_of_word kind ≡ Some d.kind) × (parsed_value d.kind value ≡ Ok d.start) × (ws ≡ codes "object" ∷ d.name ∷ kind ∷ value ∷ [])
 IsSaid objects items.Thread ws = ws ≡ codes "thread" ∷ []
-IsSaid objects (items.Call l) ws = (d : Declared) × (slice_get objects l.object ≡ Some d) × (call orders : List (List ℕ)) × IsOperation d.kind l.call call × AreOrders orders × (ws ≡ d.name ∷ (call ++ orders))
+IsSaid objects (items.Call l) ws = (d : Declared) × (slice_get objects l.object ≡ Some d) × (call orders : List (List ℕ)) × IsOperation d.kind l.call call × AreOrders (orders_of l) orders × (ws ≡ d.name ∷ (call ++ orders))
 IsSaid objects items.End ws = ws ≡ codes "end" ∷ []
 
 -- whether a line with these words is not passed over

@@ -1,17 +1,17 @@
 //! What a line of a workload says: one function for each kind of line, from its first word on.
 
-ghost use Rattle.std.specs.Prelude.{◌≡◌};
 ghost use Rattle.line_words.specs.Steps.{Gives, Steps};
-ghost use Rattle.op_table.specs.Value.{parsed_value};
-ghost use Rattle.work_lang.specs.Workload.{kind_of_word, HasKind};
-ghost use Rattle.work_lang.specs.Reading.{version_at, target_at, object_at, thread_at, operation_at, order_at, call_at};
+ghost use Rattle.op_table.specs.Kind.{IsKind};
+ghost use Rattle.work_lang.specs.Reading.{version_at, target_at, object_at, thread_at, operation_at, call_at};
 
 use crate::fault::{Cause, Slip};
 use crate::limits::{MOST_CALLS, MOST_CALLS_IN_ALL, MOST_OBJECTS, MOST_THREADS};
 use crate::objects::Objects;
-use crate::words::{check, end, fail, need, value, word};
+use crate::operands::read_operands;
+use crate::orders::read_orders;
+use crate::words::{check, end, need, value, word};
 use line_words::Words;
-use op_table::{Call, Class, Kind, Order, ValueFault, Width, read_value};
+use op_table::{Call, Kind, has_operation, kind_of_word, operation_of_word, read_value};
 use place_core::{Declared, Line, Name};
 
 /// What a line says.
@@ -35,32 +35,6 @@ pub enum Awaits {
     Thread,
     /// A call or the end of the thread.
     Call,
-}
-
-/// The one kind that the language has so far.
-pub const U64: Kind = Kind {
-    width: Width::W64,
-    signed: false,
-    class: Class::Int,
-};
-
-/// The kind that a word names.
-fn kind_of_word(word: &[u8]) -> Option<Kind>
-    ensures { result ≡ kind_of_word word.now }
-{
-    if word == b"u64".as_slice() {
-        Some(U64)
-    } else {
-        None
-    }
-}
-
-/// The value that a text spells, at a kind that the language has.
-fn value_of(kind: Kind, text: &[u8]) -> Result<u128, ValueFault>
-    requires { HasKind kind }
-    ensures { result ≡ parsed_value kind text.now }
-{
-    read_value(kind, text)
 }
 
 /// The line of the version, `work 1`.
@@ -102,7 +76,7 @@ pub fn object_item(objects: &Objects, words: &mut Words<'_>) -> Result<Item, Sli
     let text = word(words)?;
     let kind = need(words, Cause::UnknownWord, kind_of_word(text))?;
     let text = word(words)?;
-    let start = value(words, value_of(kind, text))?;
+    let start = value(words, read_value(kind, text))?;
     end(words)?;
     Ok(Item::Object(Declared { name, kind, start }))
 }
@@ -120,32 +94,16 @@ pub fn thread_item(threads: usize, words: &mut Words<'_>) -> Result<Item, Slip>
 /// A call by its word and its operands.
 #[tactic(auto, unfolding(crate::specs::Reading::operation_at))]
 fn operation_item(kind: Kind, first: &[u8], words: &mut Words<'_>) -> Result<Call, Slip>
-    requires { HasKind kind }
+    requires { IsKind kind }
     ensures { Steps (λ x. x) result words.new (operation_at kind first.now words.old) }
 {
-    if first == b"load".as_slice() {
-        return Ok(Call::Load);
-    }
-    if first == b"fetch_add".as_slice() {
-        let text = word(words)?;
-        let n = value(words, value_of(kind, text))?;
-        return Ok(Call::Add(n, false));
-    }
-    fail(words, Cause::UnknownWord)
-}
-
-/// The order, which may be left out.
-#[tactic(auto, unfolding(crate::specs::Reading::order_at))]
-fn order_item(words: &mut Words<'_>) -> Result<Order, Slip>
-    ensures { Gives (λ x. x) result (order_at words.old) }
-{
-    if words.is_end() {
-        return Ok(Order::SeqCst);
-    }
-    let text = word(words)?;
-    check(words, Cause::Extra, text == b"seq_cst".as_slice())?;
-    end(words)?;
-    Ok(Order::SeqCst)
+    let operation = need(words, Cause::UnknownWord, operation_of_word(first))?;
+    check(
+        words,
+        Cause::NotForKind,
+        has_operation(kind.class, operation),
+    )?;
+    read_operands(kind, operation, words)
 }
 
 /// A call line, where the thread has so many calls and all threads together so many.
@@ -167,11 +125,11 @@ pub fn call_item(
     )?;
     let text = word(words)?;
     let call = operation_item(objects.kind(object), text, words)?;
-    let success = order_item(words)?;
+    let orders = read_orders(&call, words)?;
     Ok(Item::Call(Line {
         object,
         call,
-        success,
-        failure: None,
+        success: orders.success,
+        failure: orders.failure,
     }))
 }

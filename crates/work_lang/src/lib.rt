@@ -7,6 +7,8 @@ pub mod laws;
 mod limits;
 mod memory;
 mod objects;
+mod operands;
+mod orders;
 mod print;
 mod reader;
 mod stream;

@@ -1,11 +1,11 @@
 //! Declared objects, found by their names.
 
 ghost use Rattle.std.specs.Prelude.{◌≡◌, ◌∷◌, ◌++◌, [], ◌<◌, ◌^◌, length, None, OnOk};
-ghost use Rattle.work_lang.specs.Workload.{object_of, HasKind, IsObject};
+ghost use Rattle.op_table.specs.Kind.{IsKind};
+ghost use Rattle.work_lang.specs.Workload.{object_of, IsObject};
 ghost use Rattle.work_lang.specs.Reading.{kind_at};
 
-use crate::item::U64;
-use op_table::{Kind, NoMemory};
+use op_table::{Class, Kind, NoMemory, Width};
 use place_core::Declared;
 use std::alloc::Global;
 use std::collections::HashMap;
@@ -45,6 +45,7 @@ impl Objects {
         }
     }
 
+    /// How many objects are declared.
     pub fn len(&self) -> usize
         ensures { result ≡ length self.now }
     {
@@ -58,15 +59,18 @@ impl Objects {
         self.index.get(word).copied()
     }
 
-    /// The kind of an object; u64 where there is no object of that number.
-    #[tactic(auto, using(crate::proofs::Values::has_u64))]
+    /// The kind of an object; bool where there is no object of that number.
     pub fn kind(&self, number: u32) -> Kind
         ensures value { result ≡ kind_at self.now number }
-        ensures known { HasKind result }
+        ensures known { IsKind result }
     {
         match self.items.get(number as usize) {
             Some(object) => object.kind,
-            None => U64,
+            None => Kind {
+                width: Width::W1,
+                signed: false,
+                class: Class::Bool,
+            },
         }
     }
 
@@ -93,6 +97,7 @@ impl Objects {
         }
     }
 
+    /// The declared objects, in order.
     pub fn into_items(self) -> Vec<Declared>
         ensures { result.items ≡ self }
     {

@@ -70,19 +70,51 @@ object A => 2 UnknownWord
 object n => 2 Twice
 object n u8 x => 2 Twice
 object m => 3 Missing
-object m u8 => 3 UnknownWord
+object m u1 => 3 UnknownWord
 object m U64 0 => 3 UnknownWord
+object m i256 0 => 3 UnknownWord
 object m u64 => 4 Missing
 object m u64 12x => 4 BadNumber
-object m u64 -0 => 4 BadNumber
-object m u64 007 => 4 BadNumber
-object m u64 +1 => 4 BadNumber
-object m u64 18446744073709551616 => 4 OutOfRange
-object m u64 340282366920938463463374607431768211456 => 4 OutOfRange
-object m u64 -1 x => 4 OutOfRange
 object m u64 0 0 => 5 Extra
 thread 1 => 2 Extra";
     assert_places(&rt, rt.alloc(), OBJECT, 4, rows)
+}
+
+#[test]
+fn numbers_have_one_text(rt: HostRuntime) -> Result<(), Fail> {
+    let rows = "object m u64 -0 => 4 BadNumber
+object m u64 007 => 4 BadNumber
+object m u64 +1 => 4 BadNumber
+object m i8 - => 4 BadNumber
+object m i8 -01 => 4 BadNumber
+object m u64 18446744073709551616 => 4 OutOfRange
+object m usize 18446744073709551616 => 4 OutOfRange
+object m u128 340282366920938463463374607431768211456 => 4 OutOfRange
+object m u128 1000000000000000000000000000000000000000 => 4 OutOfRange
+object m i128 170141183460469231731687303715884105728 => 4 OutOfRange
+object m i8 128 => 4 OutOfRange
+object m i8 -129 => 4 OutOfRange
+object m isize -9223372036854775809 => 4 OutOfRange
+object m u64 -1 x => 4 OutOfRange
+object m bool 1 => 4 BadNumber
+object m bool True => 4 BadNumber
+object m ptr 0 => 4 BadNumber
+object m ptr 0X1 => 4 BadNumber
+object m ptr 0xA => 4 BadNumber
+object m ptr 0x01 => 4 BadNumber
+object m ptr 0x => 4 BadNumber
+object m ptr 0x10000000000000000 => 4 OutOfRange";
+    assert_places(&rt, rt.alloc(), OBJECT, 4, rows)
+}
+
+#[test]
+fn long_numbers_are_out_of_range(rt: HostRuntime) -> Result<(), Fail> {
+    let mut row = String::from_str(rt.alloc(), "object m u128 1")?;
+    for _ in 0..99_999 {
+        row.push_str("0")?;
+    }
+    row.push_str(" => 4 OutOfRange")?;
+    assert_places(&rt, rt.alloc(), OBJECT, 4, &row)
 }
 
 #[test]
@@ -92,19 +124,106 @@ m load => 1 UnknownName
 thread => 1 UnknownName
 abcdefghijklmnopq load => 1 UnknownName
 n => 2 Missing
-n store 1 => 2 UnknownWord
+n nosuch 1 => 2 UnknownWord
 n Load => 2 UnknownWord
+n fetch => 2 UnknownWord
+n compare_exchange_strong 1 2 => 2 UnknownWord
+n store => 3 Missing
 n fetch_add => 3 Missing
+n compare_exchange => 3 Missing
+n compare_exchange 3 => 4 Missing
+n compare_exchange 3 x => 4 BadNumber
+n compare_exchange x y => 3 BadNumber
+n compare_exchange_weak 3 -1 => 4 OutOfRange
 n fetch_add 1x => 3 BadNumber
 n fetch_add 18446744073709551616 => 3 OutOfRange
 n fetch_add -1 => 3 OutOfRange
 n fetch_add seq_cst => 3 BadNumber
-n load relaxed => 3 Extra
+n bit_set => 3 Missing
+n bit_set x => 3 BadNumber
+n bit_set 4294967296 => 3 OutOfRange
+n bit_clear -1 => 3 OutOfRange
 n load 1 => 3 Extra
-n load seq_cst x => 4 Extra
-n fetch_add 1 acquire => 4 Extra
-n fetch_add 1 seq_cst seq_cst => 5 Extra";
+n fetch_not 5 => 3 Extra
+n neg 5 => 3 Extra";
     assert_places(&rt, rt.alloc(), THREAD, 5, rows)
+}
+
+const CLASSES: &str =
+    "work 1\ntarget full64\nobject n i8 0\nobject f bool false\nobject p ptr 0x0\nthread\n";
+
+#[test]
+fn classes_have_their_words(rt: HostRuntime) -> Result<(), Fail> {
+    let rows = "f fetch_add 1 => 2 NotForKind
+f neg => 2 NotForKind
+f fetch_max true => 2 NotForKind
+f bit_set 0 => 2 NotForKind
+f fetch_byte_add 0x1 => 2 NotForKind
+n fetch_byte_add 1 => 2 NotForKind
+n fetch_byte_sub x => 2 NotForKind
+p add 0x1 => 2 NotForKind
+p fetch_add 0x1 => 2 NotForKind
+p and 0x1 => 2 NotForKind
+p not => 2 NotForKind
+p fetch_nand 0x1 => 2 NotForKind
+p fetch_min => 2 NotForKind
+p nosuch => 2 UnknownWord
+p fetch_byte_add 1 => 3 BadNumber
+f store 1 => 3 BadNumber
+n store -129 => 3 OutOfRange";
+    assert_places(&rt, rt.alloc(), CLASSES, 7, rows)
+}
+
+#[test]
+fn orders_have_their_places(rt: HostRuntime) -> Result<(), Fail> {
+    let rows = "n load release => 3 BadOrder
+n load acq_rel => 3 BadOrder
+n store 1 acquire => 4 BadOrder
+n store 1 acq_rel => 4 BadOrder
+n load consume => 3 Extra
+n load release x => 3 BadOrder
+n load seq_cst x => 4 Extra
+n load seq_cst seq_cst => 4 Extra
+n fetch_add 1 relaxd => 4 Extra
+n fetch_add 1 seq_cst seq_cst => 5 Extra
+n compare_exchange 3 4 x => 5 Extra
+n compare_exchange 3 4 relaxed => 6 Missing
+n compare_exchange_weak 3 4 seq_cst => 6 Missing
+n compare_exchange 3 4 relaxed x => 6 Extra
+n compare_exchange 3 4 seq_cst release => 6 BadOrder
+n compare_exchange_weak 3 4 relaxed acq_rel => 6 BadOrder
+n compare_exchange 3 4 relaxed relaxed relaxed => 7 Extra";
+    assert_places(&rt, rt.alloc(), THREAD, 5, rows)
+}
+
+/// The thread isn't closed, so a line that is read leaves that fault.
+#[test]
+fn orders_are_accepted(rt: HostRuntime) -> Result<(), Fail> {
+    let rows = "n load relaxed => 0 Unclosed
+n load acquire => 0 Unclosed
+n load seq_cst => 0 Unclosed
+n store 1 relaxed => 0 Unclosed
+n store 1 release => 0 Unclosed
+n store 1 seq_cst => 0 Unclosed
+n swap 1 relaxed => 0 Unclosed
+n swap 1 acquire => 0 Unclosed
+n swap 1 release => 0 Unclosed
+n swap 1 acq_rel => 0 Unclosed
+n swap 1 seq_cst => 0 Unclosed
+n bit_set 4294967295 acq_rel => 0 Unclosed
+n neg release => 0 Unclosed";
+    assert_places(&rt, rt.alloc(), THREAD, 5, rows)?;
+    for call in ["compare_exchange", "compare_exchange_weak"] {
+        for success in ["relaxed", "acquire", "release", "acq_rel", "seq_cst"] {
+            let rows = format!(in rt.alloc();
+                "n {call} 3 4 {success} relaxed => 0 Unclosed
+n {call} 3 4 {success} acquire => 0 Unclosed
+n {call} 3 4 {success} seq_cst => 0 Unclosed"
+            )?;
+            assert_places(&rt, rt.alloc(), THREAD, 5, &rows)?;
+        }
+    }
+    Ok(())
 }
 
 #[test]

@@ -1,0 +1,139 @@
+-- The place of an object at an aligned address, and that it is apart from the place of an object behind it.
+use Rattle.std.proofs.Common.{◌≡◌, ◌⊎◌, inl, inr, ⊎_elim, ℕ, ◌+◌, ◌-◌, ◌*◌, ◌/◌, ◌%◌, ◌<◌, ◌≤◌, Bool, true, false, not, ◌&&◌, if◌then◌else◌, List, refl, ap, ◌∙◌, arith}
+use Rattle.std.specs.Prelude.{nat_le}
+use Rattle.std.proofs.lemmas.Bool.{leb-true, le-leb, cases_lt}
+use Rattle.op_table.specs.declared.kind.Kind.{Kind}
+use Rattle.op_table.specs.Kind.{bits_of, bytes_of}
+use Rattle.target_desc.specs.declared.target.Target.{Target}
+use Rattle.target_desc.specs.Target.{IsTarget}
+use Rattle.place_core.specs.declared.places.Place.TheVariants.{Lane, Parts}
+use Rattle.place_core.specs.declared.places.Object.{Object}
+use Rattle.place_core.specs.declared.shape.Shape.{Shape}
+use Rattle.place_core.specs.Shapes.{parts_for, IsPlaced, AreApart, IsInSection}
+use Rattle.layout_plan.specs.Layout.{word_bytes, alignment_of, next_address, has_lane, shift_at, place_at, words_for}
+use Rattle.layout_plan.proofs.WordSizes.{some_bytes, IsNextMultiple, next_is, Divides, IsSeated, divides, seated, counted, aligns}
+
+-- ---- which objects have lanes
+
+narrow : (s : Bool) (b n : ℕ) → (not s && nat_le b n) ≡ true → (s ≡ false) × (b ≤ n)
+narrow true b n e = absurd cc
+narrow false b n e = (refl, leb-true b n e)
+
+wide : (s : Bool) (b n : ℕ) → (not s && nat_le b n) ≡ false → (s ≡ true) ⊎ (n < b)
+wide true b n e = inl refl
+wide false b n e = ⊎_elim (λ (lt : n < b). inr lt) (λ (le : b ≤ n). absurd (let t = le-leb b n le in cc)) (cases_lt n b)
+
+pub has_lane-narrow : (t : Target) (k : Kind) → has_lane t k ≡ true → (t.section ≡ false) × (bits_of k.width ≤ t.word_bits)
+has_lane-narrow t k e = narrow t.section (bits_of k.width) t.word_bits e
+
+pub has_lane-wide : (t : Target) (k : Kind) → has_lane t k ≡ false → (t.section ≡ true) ⊎ (t.word_bits < bits_of k.width)
+has_lane-wide t k e = wide t.section (bits_of k.width) t.word_bits e
+
+-- a shape of the target's words: so many bytes of them hold so many objects
+abbrev pub shape_with : Target → ℕ → List Object → Shape
+shape_with t e os = record { word_bits = t.word_bits; steps = t.steps; section = t.section; words = words_for t e; locks = t.locks; objects = os }
+
+module _ (t : Target) (ok : IsTarget t) where
+  -- ---- addresses
+
+  pub next_at : (after : ℕ) (k : Kind) → IsNextMultiple (alignment_of t k) after (next_address t after k)
+  next_at after k = next_is (alignment_of t k) after (aligns t.word_bits ok.bits t.packed k.width).0
+
+  pub few_bytes : (after : ℕ) (k : Kind) → next_address t after k + bytes_of k ≤ after + 32
+  few_bytes after k =
+      let a = (next_at after k).most in let m = (aligns t.word_bits ok.bits t.packed k.width).1 in let b = (some_bytes k.width).1 in
+      omega (arith, a, m, b)
+
+  cuts : Divides (word_bytes t)
+  cuts = divides t.word_bits ok.bits
+
+  pub few_words : (e : ℕ) → e ≤ 4194304 → words_for t e ≤ 16777216
+  few_words e le = cuts.few e le
+
+  seat : (k : Kind) (a : ℕ) → a % alignment_of t k ≡ 0 → IsSeated t.packed k.width t.word_bits a
+  seat k a aligned = seated t.word_bits ok.bits t.packed k.width a aligned
+
+  -- an object with parts begins a word
+  begins : (k : Kind) (a : ℕ) → has_lane t k ≡ false → a % alignment_of t k ≡ 0 → a % word_bytes t ≡ 0
+  begins k a none aligned = ⊎_elim
+      (λ (is : t.section ≡ true). (seat k a aligned).alone (ok.section is).apart)
+      (λ (lt : t.word_bits < bits_of k.width). (seat k a aligned).whole lt)
+      (has_lane-wide t k none)
+
+  -- ---- words
+
+  one_word : (k : Kind) → has_lane t k ≡ false → ((t.packed ≡ false) × (parts_for (bits_of k.width) t.word_bits ≡ 1)) ⊎ (parts_for (bits_of k.width) t.word_bits * word_bytes t ≡ bytes_of k)
+  one_word k none = ⊎_elim
+      (λ (lt : t.word_bits < bits_of k.width). inr ((counted t.word_bits ok.bits k.width).tight lt))
+      (λ (le : bits_of k.width ≤ t.word_bits). ⊎_elim
+      (λ (is : t.section ≡ true). inl ((ok.section is).apart, (counted t.word_bits ok.bits k.width).one le))
+      (λ (lt : t.word_bits < bits_of k.width). absurd (omega (arith, lt, le)))
+      (has_lane-wide t k none))
+      (cases_lt t.word_bits (bits_of k.width))
+
+  -- parts end before the word of an object behind them
+  parts_end : (k j : Kind) (a b : ℕ) → has_lane t k ≡ false → a % alignment_of t k ≡ 0 → b % alignment_of t j ≡ 0 → a + bytes_of k ≤ b → a / word_bytes t + parts_for (bits_of k.width) t.word_bits ≤ b / word_bytes t
+  parts_end k j a b none at bt le = ⊎_elim
+      (λ (o : (t.packed ≡ false) × (parts_for (bits_of k.width) t.word_bits ≡ 1)).
+      let lt : a / word_bytes t < b / word_bytes t = cuts.next_word a b (let pos = (some_bytes k.width).0 in omega (arith, pos, le)) ((seat j b bt).alone o.0) in
+      let one = o.1 in omega (arith, lt, one))
+      (λ (e : parts_for (bits_of k.width) t.word_bits * word_bytes t ≡ bytes_of k). cuts.next_whole a b (bytes_of k) (parts_for (bits_of k.width) t.word_bits) (begins k a none at) e le)
+      (one_word k none)
+
+  parts_within : (k : Kind) (a e : ℕ) → has_lane t k ≡ false → a % alignment_of t k ≡ 0 → a + bytes_of k ≤ e → a / word_bytes t + parts_for (bits_of k.width) t.word_bits ≤ words_for t e
+  parts_within k a e none at le = ⊎_elim
+      (λ (o : (t.packed ≡ false) × (parts_for (bits_of k.width) t.word_bits ≡ 1)).
+      let lt : a / word_bytes t < words_for t e = cuts.in_words a e (let pos = (some_bytes k.width).0 in omega (arith, pos, le)) in
+      let one = o.1 in omega (arith, lt, one))
+      (λ (is : parts_for (bits_of k.width) t.word_bits * word_bytes t ≡ bytes_of k). cuts.whole_in_words a e (bytes_of k) (parts_for (bits_of k.width) t.word_bits) (begins k a none at) is le)
+      (one_word k none)
+
+  -- a lane ends before a lane behind it in its word
+  lane_end : (k j : Kind) (a b : ℕ) → has_lane t k ≡ true → has_lane t j ≡ true → b % alignment_of t j ≡ 0 → a + bytes_of k ≤ b → a / word_bytes t ≡ b / word_bytes t → shift_at t k a + bits_of k.width ≤ shift_at t j b
+  lane_end k j a b lane also bt le same = go t.packed refl
+    where
+      go : (p : Bool) → t.packed ≡ p
+          → (if p then 64 - t.word_bits + 8 * (a % word_bytes t) else 64 - bits_of k.width) + bits_of k.width ≤ (if p then 64 - t.word_bits + 8 * (b % word_bytes t) else 64 - bits_of j.width)
+      go true is = let low = cuts.same_word a b (bytes_of k) le same in let fits = (some_bytes k.width).2 in omega (arith, low, fits)
+      go false is =
+          let lt : a / word_bytes t < b / word_bytes t = cuts.next_word a b (let pos = (some_bytes k.width).0 in omega (arith, pos, le)) ((seat j b bt).alone is) in
+          absurd (omega (arith, lt, same))
+
+  pub places_apart : (k j : Kind) (a b : ℕ) → a % alignment_of t k ≡ 0 → b % alignment_of t j ≡ 0 → a + bytes_of k ≤ b → AreApart (place_at t k a) (place_at t j b)
+  places_apart k j a b at bt le = go (has_lane t k) (has_lane t j) refl refl
+    where
+      go : (p q : Bool) → has_lane t k ≡ p → has_lane t j ≡ q
+          → AreApart (if p then Lane (a / word_bytes t) (shift_at t k a) (bits_of k.width) else Parts (a % t.locks) (a / word_bytes t) (parts_for (bits_of k.width) t.word_bits) t.word_bits)
+          (if q then Lane (b / word_bytes t) (shift_at t j b) (bits_of j.width) else Parts (b % t.locks) (b / word_bytes t) (parts_for (bits_of j.width) t.word_bits) t.word_bits)
+      go true true l m = λ same. inl (lane_end k j a b l m bt le same)
+      go true false l m = inl (cuts.next_word a b (let pos = (some_bytes k.width).0 in omega (arith, pos, le)) (begins j b m bt))
+      go false true l m = inr (parts_end k j a b l at bt le)
+      go false false l m = inl (parts_end k j a b l at bt le)
+
+  lane_ends : (k : Kind) (a : ℕ) → bits_of k.width ≤ t.word_bits → a % alignment_of t k ≡ 0 → shift_at t k a + bits_of k.width ≤ 64
+  lane_ends k a le at = go t.packed
+    where
+      go : (p : Bool) → (if p then 64 - t.word_bits + 8 * (a % word_bytes t) else 64 - bits_of k.width) + bits_of k.width ≤ 64
+      go true = (seat k a at).ends le
+      go false = ⊎_elim (λ (e : t.word_bits ≡ 32). omega (arith, e, le)) (λ (e : t.word_bits ≡ 64). omega (arith, e, le)) ok.bits
+
+  some_lock : (a : ℕ) → a % t.locks < t.locks
+  some_lock a = let some = ok.some in omega (arith, some)
+
+  pub is_placed : (k : Kind) (a e : ℕ) (os : List Object) → a % alignment_of t k ≡ 0 → a + bytes_of k ≤ e → IsPlaced (shape_with t e os) k (place_at t k a)
+  is_placed k a e os at le = go (has_lane t k) refl
+    where
+      go : (p : Bool) → has_lane t k ≡ p → IsPlaced (shape_with t e os) k (if p then Lane (a / word_bytes t) (shift_at t k a) (bits_of k.width) else Parts (a % t.locks) (a / word_bytes t) (parts_for (bits_of k.width) t.word_bits) t.word_bits)
+      go true l = record {
+        wide = refl;
+        ends = lane_ends k a (has_lane-narrow t k l).1 at;
+        within = cuts.in_words a e (let pos = (some_bytes k.width).0 in omega (arith, pos, le));
+      }
+      go false l = record { bits = refl; suffice = refl; within = parts_within k a e l at le; lock = some_lock a }
+
+  pub in_section : (k : Kind) (a : ℕ) → t.section ≡ true → IsInSection (place_at t k a)
+  in_section k a is = go (has_lane t k) refl
+    where
+      go : (p : Bool) → has_lane t k ≡ p → IsInSection (if p then Lane (a / word_bytes t) (shift_at t k a) (bits_of k.width) else Parts (a % t.locks) (a / word_bytes t) (parts_for (bits_of k.width) t.word_bits) t.word_bits)
+      go true l = absurd (let no = (has_lane-narrow t k l).0 in cc)
+      go false l = let one : t.locks ≡ 1 = (ok.section is).locks in ap (λ (n : ℕ). a % n) one ∙ (omega arith)

@@ -1,0 +1,5 @@
+use Rattle.target_desc.proofs.Printed.{text_is_short}
+use Rattle.target_desc.proofs.laws.text_is_short.Goals as goal
+
+pub returns : goal.returns
+returns c = text_is_short
