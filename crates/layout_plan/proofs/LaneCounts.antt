@@ -50,7 +50,7 @@ told_at S [] o a d e = absurd cc
 told_at S (x ∷ xs) zero a d e = let same : x ≡ a = cc (e) in ap (λ (b : Object). is_sole_at S b.place) same
 told_at S (x ∷ xs) (suc o) a d e = told_at S xs o a d e
 
-path_at_place : (S : Shape) (k : Kind) (call : Call) (p : Place) → path_with S.steps k call p (is_sole_at S p) ≡ path_at S k call (Some p)
+pub path_at_place : (S : Shape) (k : Kind) (call : Call) (p : Place) → path_with S.steps k call p (is_sole_at S p) ≡ path_at S k call (Some p)
 path_at_place S k call (Lane w s d) = refl
 path_at_place S k call (Parts l f n b) = refl
 

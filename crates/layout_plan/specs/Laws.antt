@@ -5,6 +5,7 @@ use Rattle.op_table.specs.Kind.{bits_of, bytes_of}
 use Rattle.target_desc.specs.declared.target.Target.{Target}
 use Rattle.target_desc.specs.Target.{IsTarget}
 use Rattle.place_core.specs.declared.name.Declared.{Declared}
+use Rattle.place_core.specs.DeclaredObjects.{cells_of}
 use Rattle.place_core.specs.declared.places.Place.TheVariants.{Lane, Parts}
 use Rattle.place_core.specs.declared.places.Path.TheVariants.{One}
 use Rattle.place_core.specs.declared.places.WordOp.{WordOp}
@@ -23,13 +24,9 @@ abbrev pub LaidIsDeclared : Type 0
 LaidIsDeclared = (t : Target) (xs : List Declared) (o : ℕ) (x : Declared) → slice_get xs o ≡ Some x
     → (place_of (shape_of t xs) o ≡ Some (place_at t x.kind (address_of t xs o))) × (kind_of (shape_of t xs) o ≡ x.kind) × (start_of (shape_of t xs) o ≡ x.start)
 
--- an object's kind and start
-abbrev pub cell_of : Declared → Cell
-cell_of x = record { kind = x.kind; start = x.start }
-
 -- and there are no other objects: the cells of a laid shape are the declared kinds and starts
 abbrev pub LaidHasCells : Type 0
-LaidHasCells = (t : Target) (xs : List Declared) → cells_of_shape (shape_of t xs) ≡ map cell_of xs
+LaidHasCells = (t : Target) (xs : List Declared) → cells_of_shape (shape_of t xs) ≡ cells_of xs
 
 -- the object has a lane
 pub record HasLane (S : Shape) (o : ℕ) : Type 0 where

@@ -1,19 +1,16 @@
 -- Where declared objects lie on a target: addresses in bytes, places in words, and the shape that they make.
-use Rattle.std.specs.Prelude.{ℕ, ◌+◌, ◌-◌, ◌*◌, ◌/◌, ◌%◌, ◌<◌, max, Bool, ◌&&◌, not, nat_le, if◌then◌else◌, List, [], ◌∷◌, slice_index}
+use Rattle.std.specs.Prelude.{ℕ, ◌+◌, ◌-◌, ◌*◌, ◌/◌, ◌%◌, max, Bool, ◌&&◌, not, nat_le, if◌then◌else◌, List, [], ◌∷◌, slice_index}
 use Rattle.std.specs.List.{AllByRecursion}
 use Rattle.op_table.specs.declared.kind.Kind.{Kind}
-use Rattle.op_table.specs.Kind.{bits_of, bytes_of, values_of, IsKind}
+use Rattle.op_table.specs.Kind.{bits_of, bytes_of}
 use Rattle.target_desc.specs.declared.target.Target.{Target}
 use Rattle.place_core.specs.declared.name.Declared.{Declared}
+use Rattle.place_core.specs.DeclaredObjects.{IsDeclared}
 use Rattle.place_core.specs.declared.places.Place.{Place}
 use Rattle.place_core.specs.declared.places.Place.TheVariants.{Lane, Parts}
 use Rattle.place_core.specs.declared.places.Object.{Object}
 use Rattle.place_core.specs.declared.shape.Shape.{Shape}
 use Rattle.place_core.specs.Shapes.{parts_for}
-
--- the object is of a kind, and begins with a value of it
-abbrev pub IsDeclared : Declared → Type 0
-IsDeclared x = IsKind x.kind × (x.start < values_of x.kind)
 
 abbrev pub AreDeclared : List Declared → Type 0
 AreDeclared xs = AllByRecursion IsDeclared xs

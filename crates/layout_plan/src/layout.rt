@@ -3,7 +3,8 @@
 ghost use Rattle.std.specs.Prelude.{◌≡◌, ◌↔◌, ◌≤◌, ◌*◌, true, length, IsTrue, IfOk};
 ghost use Rattle.target_desc.specs.Target.{IsTarget};
 ghost use Rattle.place_core.specs.Shapes.{IsShape};
-ghost use Rattle.layout_plan.specs.Layout.{IsDeclared, AreDeclared, word_bytes, alignment_of, next_address, has_lane, shift_at, place_at, laid_at, words_for, shape_of};
+ghost use Rattle.place_core.specs.DeclaredObjects.{IsDeclared};
+ghost use Rattle.layout_plan.specs.Layout.{AreDeclared, word_bytes, alignment_of, next_address, has_lane, shift_at, place_at, laid_at, words_for, shape_of};
 
 use op_table::{Call, Kind, NoMemory, bits, bytes, call_fits, kind_ok};
 use place_core::{Declared, Object, Objects, Place, Shape};

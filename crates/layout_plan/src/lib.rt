@@ -9,5 +9,5 @@ mod soles;
 mod tests;
 
 pub use layout::{are_declared, has_lane, lay, next_address};
-pub use plans::plan;
+pub use plans::{is_sole_at, path_with, plan};
 pub use soles::Plans;

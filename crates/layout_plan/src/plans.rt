@@ -26,8 +26,8 @@ fn path_by(steps: StepSet, op: Option<WordOp>) -> Path
     }
 }
 
-/// How a call on an object is made, where it is known whether its lane is sole.
-pub(crate) fn path_with(shape: &Shape, object: &Object, sole: bool, call: &Call) -> Path
+/// How a call on an object is made, where it is known whether its lane is alone in its word. It searches nothing.
+pub fn path_with(shape: &Shape, object: &Object, sole: bool, call: &Call) -> Path
     requires placed { IsPlaced shape.now object.now.kind object.now.place }
     requires fits { CallFits object.now.kind call.now }
     ensures { result ≡ path_with shape.now.steps object.now.kind call.now object.now.place sole }
@@ -41,7 +41,8 @@ pub(crate) fn path_with(shape: &Shape, object: &Object, sole: bool, call: &Call)
     }
 }
 
-fn is_sole_at(shape: &Shape, place: Place) -> bool
+/// Whether a place is a lane that is alone in its word. It looks at every object of the shape.
+pub fn is_sole_at(shape: &Shape, place: Place) -> bool
     ensures { result ≡ is_sole_at shape.now place }
 {
     match place {

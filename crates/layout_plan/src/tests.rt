@@ -7,7 +7,7 @@ mod paths;
 
 use super::*;
 use op_table::{Class, Kind, Width, bytes};
-use place_core::{Declared, Name, Place, Shape};
+use place_core::{Declared, Name, Place, Shape, shape_ok};
 use std::alloc::Global;
 use std::process::Abort;
 use std::test::*;
@@ -272,5 +272,21 @@ fn lanes_are_for_narrow_kinds(rt: HostRuntime) -> Result<(), Fail> {
         let target = builtin(name.as_bytes()).ok_or("a target")?;
         assert_eq!(rt; has_lane(&target, kind), wanted, "{name} {kind:?}");
     }
+    Ok(())
+}
+
+/// As many objects as a shape has at most, of which two bytes share a word, lie on a packed target.
+#[test]
+fn most_objects_are_apart(rt: HostRuntime) -> Result<(), Fail> {
+    let mut kinds = Vec::new(rt.alloc());
+    for _ in 0..16384 {
+        for kind in [U8, U8, U64, U128] {
+            kinds.push(kind).map_err(|_| "memory")?;
+        }
+    }
+    let shape = laid(&rt, rt.alloc(), "word64", kinds.as_slice())?;
+    assert_eq!(rt; shape.objects.len(), 65536);
+    assert_eq!(rt; shape.words, 65536);
+    assert!(rt; shape_ok(&shape));
     Ok(())
 }

@@ -44,7 +44,7 @@ value_own S H x p there = let t = object_of-place S.objects x.object p there in
     value_of-own (cells_of_shape S) H x x.object (cell_of t.0) (cell_at S x.object t.0 t.1) refl
     ∙ ap (λ (k : Kind). left_by k x (value_of (cells_of_shape S) H x.object)) (sym (kind_of-at S x.object t.0 t.1))
 
-effect_fits : (r : Reply) (next v m : ℕ) → next < m → v < m → effect_of r next v < m
+pub effect_fits : (r : Reply) (next v m : ℕ) → next < m → v < m → effect_of r next v < m
 effect_fits reply.Unit next v m a b = a
 effect_fits (reply.Value r) next v m a b = a
 effect_fits (reply.Bit r) next v m a b = a
@@ -92,3 +92,14 @@ start_in_cell S o (Some a) e = value_of-start (cells_of_shape S) o (cell_of a) (
 
 pub value_start : (S : Shape) (o : ℕ) → value_of (cells_of_shape S) [] o ≡ start_of S o
 value_start S o = start_in_cell S o (slice_get S.objects o) refl
+
+-- ---- an entry that leaves its object's value
+
+after_in : (S : Shape) (H : List Entry) (x : Entry) (z : Option Object) → slice_get S.objects x.object ≡ z → left_by (kind_in z) x (value_of (cells_of_shape S) H x.object) ≡ value_of (cells_of_shape S) H x.object
+    → value_of (cells_of_shape S) (H ++ x ∷ []) x.object ≡ value_of (cells_of_shape S) H x.object
+after_in S H x None e kept = ap (λ (c : Option Cell). value_in c (H ++ x ∷ []) x.object) (no_cell S.objects x.object e) ∙ sym (ap (λ (c : Option Cell). value_in c H x.object) (no_cell S.objects x.object e))
+after_in S H x (Some a) e kept = value_of-own (cells_of_shape S) H x x.object (cell_of a) (cell_at S x.object a e) refl ∙ kept
+
+pub value_after : (S : Shape) (H : List Entry) (x : Entry) → left_by (kind_of S x.object) x (value_of (cells_of_shape S) H x.object) ≡ value_of (cells_of_shape S) H x.object
+    → value_of (cells_of_shape S) (H ++ x ∷ []) x.object ≡ value_of (cells_of_shape S) H x.object
+value_after S H x kept = after_in S H x (slice_get S.objects x.object) refl kept

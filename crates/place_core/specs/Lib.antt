@@ -3,6 +3,7 @@ pub mod Packed
 pub mod RepliesState
 pub mod Histories
 pub mod Cells
+pub mod DeclaredObjects
 pub mod Runs
 pub mod Plain
 pub mod Laws
@@ -11,3 +12,10 @@ pub mod Shapes
 pub mod Operations
 pub mod Validity
 pub mod ShapeLaws
+pub mod Changes
+pub mod Earned
+pub mod PartValues
+pub mod Passes
+pub mod WordLaws
+pub mod ChangeLaws
+pub mod PartLaws

@@ -2,6 +2,10 @@
 
 ghost use Rattle.place_core.specs.Laws.{EmptyIsLegal, LegalWithOneMore, LegalInFront, ValueAtStart, ValueAfterOwn, ValueAfterOther, EntriesOfNone, EntriesWithOwn, EntriesWithOther, EntriesInFront, CallersOfNone, CallersWithOneMore, CallersWithinMore, CallersInFront, EntriesOfNew, PlainIsRun, PlainIsOnlyRun};
 
+pub mod changes;
+pub mod parts;
+pub mod words;
+
 /// The empty history is legal.
 pub fn empty_is_legal()
     ensures { EmptyIsLegal }

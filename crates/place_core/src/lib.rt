@@ -2,9 +2,13 @@
 #![tactic(auto)]
 
 mod entry;
+mod full;
+#[cfg(test)]
+mod lane_tests;
 mod lanes;
 pub mod laws;
 mod name;
+mod parts;
 mod places;
 mod replies;
 mod script;
@@ -18,8 +22,10 @@ mod tests;
 mod valid;
 
 pub use entry::Entry;
+pub use full::Full;
 pub use lanes::{lane_bits, put_lane, raised};
 pub use name::{Declared, Name};
+pub use parts::{part_at, with_part};
 pub use places::{Object, Path, Place, WordOp};
 pub use replies::Replies;
 pub use script::{Line, Script};

@@ -14,7 +14,8 @@ use Rattle.place_core.specs.Runs.{asked_of, loads_from}
 use Rattle.place_core.specs.Plain.{answer_at, next_values, values_after, answers_to, asked_by, thread_answers, end_values, starts_of, plain_history, HasCall, ScriptsFit}
 use Rattle.place_core.proofs.PlainRuns.{plain_run, plain_table}
 use Rattle.place_core.proofs.PlainReplies.{replies_from-plain_history, replies_by-loads}
-use Rattle.work_lang.specs.Workload.{Workload, IsWork, IsObject, HasLine, LineFits, cell_of, cells_of}
+use Rattle.place_core.specs.DeclaredObjects.{IsDeclared, cell_of, cells_of}
+use Rattle.work_lang.specs.Workload.{Workload, IsWork, HasLine, LineFits}
 use Rattle.report_text.specs.Report.{AnswerLines, AnswerThreads, AnswerObjects}
 use Rattle.report_text.proofs.Walks.{all_at}
 use Rattle.report_text.proofs.LineKinds.{kind_read}
@@ -40,44 +41,44 @@ reply_fits : (ds : List Declared) (values : List ℕ) (o : ℕ) (call : Call) (d
 reply_fits ds values o call d at sound fits fit =
     subst (λ kind. ReplyFits d.kind (answer_of kind call (get_or values o 0))) (sym (kind_there ds o d at)) (answer_fits d.kind call (get_or values o 0) sound fits (fit_at (cells_of ds) values o (cell_of d) fit (cell_there ds o d at)))
 
-pub fit_after : (ds : List Declared) (values : List ℕ) (lines : List Line) → AllByRecursion IsObject ds → AllByRecursion (LineFits ds) lines → ValuesFit (cells_of ds) values → ValuesFit (cells_of ds) (values_after (cells_of ds) values (asked_by lines))
+pub fit_after : (ds : List Declared) (values : List ℕ) (lines : List Line) → AllByRecursion IsDeclared ds → AllByRecursion (LineFits ds) lines → ValuesFit (cells_of ds) values → ValuesFit (cells_of ds) (values_after (cells_of ds) values (asked_by lines))
 fit_after ds values [] sound fits fit = fit
 fit_after ds values (l ∷ lines) sound fits fit =
     let it = found ds l fits.0 in
-    let object = all_at IsObject ds l.object it.object sound it.at in
+    let object = all_at IsDeclared ds l.object it.object sound it.at in
     fit_after ds (next_values (cells_of ds) values (asked_of l)) lines sound fits.1 (fit_next ds values l.object l.call it.object it.at object.0 it.has.0 fit)
 
-pub answer_lines : (ds : List Declared) (values : List ℕ) (lines : List Line) → AllByRecursion IsObject ds → AllByRecursion (LineFits ds) lines → ValuesFit (cells_of ds) values → AnswerLines ds lines (answers_to (cells_of ds) values (asked_by lines))
+pub answer_lines : (ds : List Declared) (values : List ℕ) (lines : List Line) → AllByRecursion IsDeclared ds → AllByRecursion (LineFits ds) lines → ValuesFit (cells_of ds) values → AnswerLines ds lines (answers_to (cells_of ds) values (asked_by lines))
 answer_lines ds values [] sound fits fit = tt
 answer_lines ds values (l ∷ lines) sound fits fit =
     let it = found ds l fits.0 in
-    let object = all_at IsObject ds l.object it.object sound it.at in (
+    let object = all_at IsDeclared ds l.object it.object sound it.at in (
       subst (λ kind. ReplyFits kind (answer_at (cells_of ds) values (asked_of l))) (sym (kind_read ds l.object it.object it.at)) (reply_fits ds values l.object l.call it.object it.at object.0 it.has.0 fit),
       answer_lines ds (next_values (cells_of ds) values (asked_of l)) lines sound fits.1 (fit_next ds values l.object l.call it.object it.at object.0 it.has.0 fit),
     )
 
-pub answer_threads : (ds : List Declared) (values : List ℕ) (threads : List (List Line)) → AllByRecursion IsObject ds → AllByRecursion (AllByRecursion (LineFits ds)) threads → ValuesFit (cells_of ds) values → AnswerThreads ds threads (thread_answers (cells_of ds) values threads)
+pub answer_threads : (ds : List Declared) (values : List ℕ) (threads : List (List Line)) → AllByRecursion IsDeclared ds → AllByRecursion (AllByRecursion (LineFits ds)) threads → ValuesFit (cells_of ds) values → AnswerThreads ds threads (thread_answers (cells_of ds) values threads)
 answer_threads ds values [] sound fits fit = tt
 answer_threads ds values (lines ∷ threads) sound fits fit = (
   answer_lines ds values lines sound fits.0 fit,
   answer_threads ds (values_after (cells_of ds) values (asked_by lines)) threads sound fits.1 (fit_after ds values lines sound fits.0 fit),
 )
 
-pub fit_ended : (ds : List Declared) (values : List ℕ) (threads : List (List Line)) → AllByRecursion IsObject ds → AllByRecursion (AllByRecursion (LineFits ds)) threads → ValuesFit (cells_of ds) values → ValuesFit (cells_of ds) (end_values (cells_of ds) values threads)
+pub fit_ended : (ds : List Declared) (values : List ℕ) (threads : List (List Line)) → AllByRecursion IsDeclared ds → AllByRecursion (AllByRecursion (LineFits ds)) threads → ValuesFit (cells_of ds) values → ValuesFit (cells_of ds) (end_values (cells_of ds) values threads)
 fit_ended ds values [] sound fits fit = fit
 fit_ended ds values (lines ∷ threads) sound fits fit = fit_ended ds (values_after (cells_of ds) values (asked_by lines)) threads sound fits.1 (fit_after ds values lines sound fits.0 fit)
 
 -- the loads of the objects from number o on
-loads_fit : (all : List Declared) (values : List ℕ) (o : ℕ) (ds : List Declared) → ((i : ℕ) (d : Declared) → slice_get ds i ≡ Some d → slice_get all (o + i) ≡ Some d) → AllByRecursion IsObject all → ValuesFit (cells_of all) values → AnswerObjects ds (answers_to (cells_of all) values (loads_from o (cells_of ds)))
+loads_fit : (all : List Declared) (values : List ℕ) (o : ℕ) (ds : List Declared) → ((i : ℕ) (d : Declared) → slice_get ds i ≡ Some d → slice_get all (o + i) ≡ Some d) → AllByRecursion IsDeclared all → ValuesFit (cells_of all) values → AnswerObjects ds (answers_to (cells_of all) values (loads_from o (cells_of ds)))
 loads_fit all values o [] within sound fit = tt
 loads_fit all values o (d ∷ ds) within sound fit =
     let here : slice_get all o ≡ Some d = subst (λ (i : ℕ). slice_get all i ≡ Some d) (omega arith) (within 0 d refl) in
-    let object = all_at IsObject all o d sound here in (
+    let object = all_at IsDeclared all o d sound here in (
       reply_fits all values o Load d here object.0 tt fit,
       loads_fit all (next_values (cells_of all) values (o, Load)) (o + 1) ds (λ i c at. subst (λ (j : ℕ). slice_get all j ≡ Some c) (omega arith) (within (suc i) c at)) sound (fit_next all values o Load d here object.0 tt fit),
     )
 
-pub answer_objects : (ds : List Declared) (values : List ℕ) → AllByRecursion IsObject ds → ValuesFit (cells_of ds) values → AnswerObjects ds (answers_to (cells_of ds) values (loads_from 0 (cells_of ds)))
+pub answer_objects : (ds : List Declared) (values : List ℕ) → AllByRecursion IsDeclared ds → ValuesFit (cells_of ds) values → AnswerObjects ds (answers_to (cells_of ds) values (loads_from 0 (cells_of ds)))
 answer_objects ds values sound fit = loads_fit ds values 0 ds (λ i d at. subst (λ (j : ℕ). slice_get ds j ≡ Some d) (omega arith) at) sound fit
 
 -- lines that fit the objects fit their cells

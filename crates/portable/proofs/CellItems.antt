@@ -10,7 +10,7 @@ use Rattle.place_core.specs.declared.name.Declared.{Declared}
 use Rattle.place_core.specs.Cells.{Cell}
 use Rattle.place_core.specs.Plain.{kind_at, next_values, starts_of}
 use Rattle.place_core.proofs.Tracking.{kind_at-there}
-use Rattle.work_lang.specs.Workload.{IsObject, cell_of, cells_of}
+use Rattle.place_core.specs.DeclaredObjects.{IsDeclared, cell_of, cells_of}
 use Rattle.work_lang.proofs.CallLines.{item_read, item_fact}
 use Rattle.report_text.proofs.Walks.{all_at, below_at}
 use Rattle.portable.specs.Fits.{ValuesFit}
@@ -47,7 +47,7 @@ length-fit [] (v ∷ values) fit = absurd fit
 length-fit (c ∷ cells) [] fit = absurd fit
 length-fit (c ∷ cells) (v ∷ values) fit = ap suc (length-fit cells values fit.1)
 
-pub fit_starts : (ds : List Declared) → AllByRecursion IsObject ds → ValuesFit (cells_of ds) (starts_of (cells_of ds))
+pub fit_starts : (ds : List Declared) → AllByRecursion IsDeclared ds → ValuesFit (cells_of ds) (starts_of (cells_of ds))
 fit_starts [] sound = tt
 fit_starts (d ∷ ds) sound = (sound.0.1, fit_starts ds sound.1)
 
@@ -68,10 +68,10 @@ pub record StepFacts (ds : List Declared) (values : List ℕ) (o : ℕ) (call : 
   pub named : kind_at (cells_of ds) o ≡ d.kind
   pub next : ValuesFit (cells_of ds) (next_values (cells_of ds) values (o, call))
 
-pub step_facts : (ds : List Declared) (values : List ℕ) (o : ℕ) (call : Call) (d : Declared) → AllByRecursion IsObject ds → IsSomeAnd (slice_get ds o) (λ d. CallFits d.kind call) → ValuesFit (cells_of ds) values → d ≡ get_or ds o d → StepFacts ds values o call d
+pub step_facts : (ds : List Declared) (values : List ℕ) (o : ℕ) (call : Call) (d : Declared) → AllByRecursion IsDeclared ds → IsSomeAnd (slice_get ds o) (λ d. CallFits d.kind call) → ValuesFit (cells_of ds) values → d ≡ get_or ds o d → StepFacts ds values o call d
 step_facts ds values o call d sound has fit is =
     let there = item_read (λ d. CallFits d.kind call) ds o d has is in
-    let object = all_at IsObject ds o d sound there in
+    let object = all_at IsDeclared ds o d sound there in
     let fits = item_fact (λ (d : Declared). CallFits d.kind call) (slice_get ds o) d has there in
     record {
       sound = object.0;

@@ -1,4 +1,5 @@
-mod CellItems
-mod Answering
-mod Readings
-mod Serving
+pub mod CellItems
+pub mod Answering
+pub mod Readings
+pub mod Serving
+pub mod TargetRows

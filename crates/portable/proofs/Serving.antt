@@ -1,21 +1,28 @@
 -- What serving says of the source and the sink.
-use Rattle.std.proofs.Common.{◌≡◌, inl, inr, Bool, true, ℕ, List, [], take, drop, Ok, Err, refl, sym, subst, ap, ◌∙◌, arith}
+use Rattle.std.proofs.Common.{◌≡◌, ◌⊎◌, inl, inr, Bool, true, false, ℕ, List, [], take, drop, Ok, Err, refl, sym, subst, ap, ◌∙◌, arith}
 use Rattle.std.specs.Prelude.{Some, None, IfSome, MatchOption, MatchResult, Result}
 use Rattle.std.specs.declared.option.Option.{Option}
+use Rattle.std.specs.Io.KnownBytes.{Appends}
 use Rattle.std.proofs.lemmas.List.{drop_all}
 use Rattle.op_table.specs.declared.call.Reply.{Reply}
 use Rattle.place_core.specs.Runs.{replies_from}
 use Rattle.work_lang.specs.declared.fault.WorkFault.{WorkFault}
 use Rattle.work_lang.specs.declared.fault.WorkFault.TheVariants as texts
-use Rattle.work_lang.specs.Streams.{most_read, ReadsAll, text_of}
+use Rattle.work_lang.specs.Faults.{Rose}
+use Rattle.work_lang.specs.Streams.{most_read, ReadsAll, AppendsFront, text_of, Writes}
 use Rattle.work_lang.specs.Workload.{Workload}
 use Rattle.work_lang.specs.Reading.{Fault, reading_of, Reads}
 use Rattle.report_text.specs.Report.{lines_with, report_of}
 use Rattle.portable.specs.declared.status.Status.{Status}
 use Rattle.portable.specs.declared.status.Status.TheVariants.{Done, Refused, Usage, ReadFault, WriteFault, NoMemory}
+use Rattle.portable.specs.declared.command.Command.{Command}
+use Rattle.portable.specs.declared.command.Command.TheVariants.{Run, Check, Plan, Targets}
+use Rattle.portable.specs.declared.command.WordsFault.{WordsFault}
+use Rattle.portable.specs.Commands.{reads, described_by, described}
+use Rattle.portable.specs.Texts.{IsReport, IsTextOf, targets_text}
 use Rattle.portable.specs.Outside.{Outside, outside}
 use Rattle.portable.specs.Ran.{IsRunWith}
-use Rattle.portable.specs.Status.{fault_line, WritesReport, RunsWork, RefusesBy, TellsFault, WhereNotWritten, Says, Completes}
+use Rattle.portable.specs.Status.{fault_line, Taking, WritesText, Served, WroteOwn, Serves, RefusesBy, TellsFault, WhereNotWritten, WhereNotRead, status_of, SaysOf, Says, Finishes, Completes}
 use Rattle.portable.proofs.Readings.{reading_of-take, short_text}
 
 -- ---- reading
@@ -35,45 +42,64 @@ up_to_fault (Some bytes) new text f all read = read_is bytes text (Err f) all.0 
 
 -- ---- writing
 
+-- lines that are right were taken
+pub lines_taken : {K E : Type 0} (taken : K → Option (List ℕ)) (faults : K → ℕ) (k k' : K) (IsRight : List ℕ → Type 0) (lines : List (List ℕ)) (u : Unit {0}) → IsRight (text_of lines) → Writes {E = E} taken faults k k' (Ok u) lines → Serves taken faults k k' IsRight Done
+lines_taken taken faults k k' IsRight lines u right writes = record { text = text_of lines; right = right; written = writes.ok }
+
+-- a front of them was taken
+pub lines_stopped : {K E : Type 0} (taken : K → Option (List ℕ)) (faults : K → ℕ) (k k' : K) (IsRight : List ℕ → Type 0) (lines : List (List ℕ)) (e : E) → IsRight (text_of lines) → Writes taken faults k k' (Err e) lines → Serves taken faults k k' IsRight WriteFault
+lines_stopped taken faults k k' IsRight lines e right writes = (writes.cause.failed, record { text = text_of lines; right = right; written = writes.err })
+
 -- the report of the history that was run
-pub report_is : (w : Workload) (replies : List (List Reply)) (last : List Reply) (ran : IsRunWith w replies last) → text_of (lines_with w replies last) ≡ report_of w ran.history
-report_is w replies last ran =
-    ap (λ r. text_of (lines_with w r last)) ran.threads ∙ ap (λ l. text_of (lines_with w (replies_from ran.history 1 w.threads) l)) ran.loads
+pub is_report : (w : Workload) (replies : List (List Reply)) (last : List Reply) → IsRunWith w replies last → IsReport w (text_of (lines_with w replies last))
+is_report w replies last ran = record {
+  history = ran.history;
+  run = ran.run;
+  report = ap (λ r. text_of (lines_with w r last)) ran.threads ∙ ap (λ l. text_of (lines_with w (replies_from ran.history 1 w.threads) l)) ran.loads;
+}
 
-pub writes_report : (w : Workload) (replies : List (List Reply)) (last : List Reply) (Written : List ℕ → Type 0) → IsRunWith w replies last → Written (text_of (lines_with w replies last)) → WritesReport w Written
-writes_report w replies last Written ran written = record { history = ran.history; run = ran.run; written = subst Written (report_is w replies last ran) written }
+-- ---- serving a command that reads
 
--- ---- serving
+own : (Took : Taking) (command : Command) (before after : Outside) → reads command ≡ true → Served Took command before after → WroteOwn Took command before after
+own Took (Run t) before after r served = served
+own Took Check before after r served = served
+own Took (Plan t) before after r served = served
+own Took Targets before after r served = absurd cc
 
-pub serves_work : {S K : Type 0} (left : S → Option (List ℕ)) (read_faults : S → ℕ) (taken : K → Option (List ℕ)) (write_faults : K → ℕ) (s s' : S) (k k' : K) (text : List ℕ) (w : Workload) (status : Status) → ReadsAll left s s' text → reading_of text ≡ Ok w → RunsWork taken write_faults k k' w status → Says true (outside left read_faults taken write_faults s k) (outside left read_faults taken write_faults s' k') status
-serves_work left read_faults taken write_faults s s' k k' text w Done all read ran = (refl, record { work = w; read = to_the_end (left s) (left s') text w all read; report = ran })
-serves_work left read_faults taken write_faults s s' k k' text w Refused all read ran = absurd ran
-serves_work left read_faults taken write_faults s s' k k' text w Usage all read ran = absurd ran
-serves_work left read_faults taken write_faults s s' k k' text w ReadFault all read ran = absurd ran
-serves_work left read_faults taken write_faults s s' k k' text w WriteFault all read ran = (refl, ran.0, inl (record { work = w; read = to_the_end (left s) (left s') text w all read; report = ran.1 }))
-serves_work left read_faults taken write_faults s s' k k' text w NoMemory all read ran = refl
+pub serves_work : {S K : Type 0} (left : S → Option (List ℕ)) (read_faults : S → ℕ) (taken : K → Option (List ℕ)) (write_faults : K → ℕ) (s s' : S) (k k' : K) (command : Command) (text : List ℕ) (w : Workload) (status : Status) → reads command ≡ true → ReadsAll left s s' text → reading_of text ≡ Ok w → Serves taken write_faults k k' (IsTextOf command w) status
+    → SaysOf command (outside left read_faults taken write_faults s k) (outside left read_faults taken write_faults s' k') status
+serves_work left read_faults taken write_faults s s' k k' command text w Done r all read served = own Appends command _ _ r (record { work = w; read = to_the_end (left s) (left s') text w all read; text = served })
+serves_work left read_faults taken write_faults s s' k k' command text w Refused r all read served = absurd served
+serves_work left read_faults taken write_faults s s' k k' command text w Usage r all read served = absurd served
+serves_work left read_faults taken write_faults s s' k k' command text w ReadFault r all read served = absurd served
+serves_work left read_faults taken write_faults s s' k k' command text w WriteFault r all read served = (served.0, inl (own AppendsFront command _ _ r (record { work = w; read = to_the_end (left s) (left s') text w all read; text = served.1 })))
+serves_work left read_faults taken write_faults s s' k k' command text w NoMemory r all read served = tt
 
-refuses_by : {S K : Type 0} (left : S → Option (List ℕ)) (read_faults : S → ℕ) (taken : K → Option (List ℕ)) (write_faults : K → ℕ) (s s' : S) (k k' : K) (text : List ℕ) (f : Fault) (status : Status) → ReadsAll left s s' text → reading_of text ≡ Err f → RefusesBy taken write_faults k k' (fault_line f.line f.word f.cause) status → Says true (outside left read_faults taken write_faults s k) (outside left read_faults taken write_faults s' k') status
-refuses_by left read_faults taken write_faults s s' k k' text f Done all read told = absurd told
-refuses_by left read_faults taken write_faults s s' k k' text f Refused all read told = (refl, record { fault = f; read = up_to_fault (left s) (left s') text f all read; written = told })
-refuses_by left read_faults taken write_faults s s' k k' text f Usage all read told = absurd told
-refuses_by left read_faults taken write_faults s s' k k' text f ReadFault all read told = absurd told
-refuses_by left read_faults taken write_faults s s' k k' text f WriteFault all read told = (refl, told.0, inr (record { fault = f; read = up_to_fault (left s) (left s') text f all read; written = told.1 }))
-refuses_by left read_faults taken write_faults s s' k k' text f NoMemory all read told = absurd told
+refuses_by : {S K : Type 0} (left : S → Option (List ℕ)) (read_faults : S → ℕ) (taken : K → Option (List ℕ)) (write_faults : K → ℕ) (s s' : S) (k k' : K) (command : Command) (text : List ℕ) (f : Fault) (status : Status) → reads command ≡ true → ReadsAll left s s' text → reading_of text ≡ Err f → RefusesBy taken write_faults k k' (fault_line f.line f.word f.cause) status
+    → SaysOf command (outside left read_faults taken write_faults s k) (outside left read_faults taken write_faults s' k') status
+refuses_by left read_faults taken write_faults s s' k k' command text f Done r all read told = absurd told
+refuses_by left read_faults taken write_faults s s' k k' command text f Refused r all read told = (r, record { fault = f; read = up_to_fault (left s) (left s') text f all read; written = told })
+refuses_by left read_faults taken write_faults s s' k k' command text f Usage r all read told = absurd told
+refuses_by left read_faults taken write_faults s s' k k' command text f ReadFault r all read told = absurd told
+refuses_by left read_faults taken write_faults s s' k k' command text f WriteFault r all read told = (told.0, inr (r, record { fault = f; read = up_to_fault (left s) (left s') text f all read; written = told.1 }))
+refuses_by left read_faults taken write_faults s s' k k' command text f NoMemory r all read told = absurd told
 
-pub serves_fault : {S K : Type 0} (left : S → Option (List ℕ)) (read_faults : S → ℕ) (taken : K → Option (List ℕ)) (write_faults : K → ℕ) (s s' : S) (k k' : K) (text : List ℕ) (fault : WorkFault) (status : Status) → ReadsAll left s s' text → Reads (Err fault) (reading_of text) → TellsFault taken write_faults k k' fault status → Says true (outside left read_faults taken write_faults s k) (outside left read_faults taken write_faults s' k') status
-serves_fault left read_faults taken write_faults s s' k k' text (texts.Text line word cause) status all read told =
-    refuses_by left read_faults taken write_faults s s' k k' text (record { line = line; word = word; cause = cause }) status all read told
-serves_fault left read_faults taken write_faults s s' k k' text texts.NoMemory status all read told =
-    subst (λ st. Says true (outside left read_faults taken write_faults s k) (outside left read_faults taken write_faults s' k') st) (sym told.0) refl
+pub serves_fault : {S K : Type 0} (left : S → Option (List ℕ)) (read_faults : S → ℕ) (taken : K → Option (List ℕ)) (write_faults : K → ℕ) (s s' : S) (k k' : K) (command : Command) (text : List ℕ) (fault : WorkFault) (status : Status) → reads command ≡ true → ReadsAll left s s' text → Reads (Err fault) (reading_of text) → TellsFault taken write_faults k k' fault status
+    → SaysOf command (outside left read_faults taken write_faults s k) (outside left read_faults taken write_faults s' k') status
+serves_fault left read_faults taken write_faults s s' k k' command text (texts.Text line word cause) status r all read told =
+    refuses_by left read_faults taken write_faults s s' k k' command text (record { line = line; word = word; cause = cause }) status r all read told
+serves_fault left read_faults taken write_faults s s' k k' command text texts.NoMemory status r all read told =
+    subst (λ st. SaysOf command (outside left read_faults taken write_faults s k) (outside left read_faults taken write_faults s' k') st) (sym told.0) tt
 
-pub work_unwritten : {K : Type 0} (taken : K → Option (List ℕ)) (faults : K → ℕ) (k k' : K) (w : Workload) (status : Status) → RunsWork taken faults k k' w status → WhereNotWritten status (k' ≡ k)
-work_unwritten taken faults k k' w Done ran = tt
-work_unwritten taken faults k k' w Refused ran = tt
-work_unwritten taken faults k k' w Usage ran = absurd ran
-work_unwritten taken faults k k' w ReadFault ran = absurd ran
-work_unwritten taken faults k k' w WriteFault ran = tt
-work_unwritten taken faults k k' w NoMemory ran = ran
+-- ---- what is left
+
+pub served_unwritten : {K : Type 0} (taken : K → Option (List ℕ)) (faults : K → ℕ) (k k' : K) (IsRight : List ℕ → Type 0) (status : Status) → Serves taken faults k k' IsRight status → WhereNotWritten status (k' ≡ k)
+served_unwritten taken faults k k' IsRight Done served = tt
+served_unwritten taken faults k k' IsRight Refused served = tt
+served_unwritten taken faults k k' IsRight Usage served = absurd served
+served_unwritten taken faults k k' IsRight ReadFault served = absurd served
+served_unwritten taken faults k k' IsRight WriteFault served = tt
+served_unwritten taken faults k k' IsRight NoMemory served = served
 
 line_unwritten : {K : Type 0} (taken : K → Option (List ℕ)) (faults : K → ℕ) (k k' : K) (line : List ℕ) (status : Status) → RefusesBy taken faults k k' line status → WhereNotWritten status (k' ≡ k)
 line_unwritten taken faults k k' line Done told = tt
@@ -86,6 +112,34 @@ line_unwritten taken faults k k' line NoMemory told = absurd told
 pub fault_unwritten : {K : Type 0} (taken : K → Option (List ℕ)) (faults : K → ℕ) (k k' : K) (fault : WorkFault) (status : Status) → TellsFault taken faults k k' fault status → WhereNotWritten status (k' ≡ k)
 fault_unwritten taken faults k k' (texts.Text line word cause) status told = line_unwritten taken faults k k' (fault_line line word cause) status told
 fault_unwritten taken faults k k' texts.NoMemory status told = subst (λ st. WhereNotWritten st (k' ≡ k)) (sym told.0) told.1
+
+-- ---- the targets
+
+pub serves_targets : {S K : Type 0} (left : S → Option (List ℕ)) (read_faults : S → ℕ) (taken : K → Option (List ℕ)) (write_faults : K → ℕ) (s : S) (k k' : K) (status : Status) → Serves taken write_faults k k' (λ text. text ≡ targets_text) status
+    → SaysOf Targets (outside left read_faults taken write_faults s k) (outside left read_faults taken write_faults s k') status
+serves_targets left read_faults taken write_faults s k k' Done served = subst (Appends (taken k) (taken k')) served.right served.written
+serves_targets left read_faults taken write_faults s k k' Refused served = absurd served
+serves_targets left read_faults taken write_faults s k k' Usage served = absurd served
+serves_targets left read_faults taken write_faults s k k' ReadFault served = absurd served
+serves_targets left read_faults taken write_faults s k k' WriteFault served = (served.0, inl (subst (AppendsFront (taken k) (taken k')) served.1.right served.1.written))
+serves_targets left read_faults taken write_faults s k k' NoMemory served = tt
+
+-- ---- the top call
+
+-- a command that doesn't run is described as it is
+pub described_says : (asked : Result Command WordsFault) (before after : Outside) (status : Status) → ((t : Option _) → asked ≡ Ok (Run t) → ⊥) → Says (described asked) before after status → Says asked before after status
+described_says (Ok (Run t)) before after status other says = absurd (other t refl)
+described_says (Ok Check) before after status other says = says
+described_says (Ok (Plan t)) before after status other says = says
+described_says (Ok Targets) before after status other says = says
+described_says (Err fault) before after status other says = says
+
+pub described_leaves : (asked : Result Command WordsFault) (P : Type 0) → ((t : Option _) → asked ≡ Ok (Run t) → ⊥) → WhereNotRead (described asked) P → WhereNotRead asked P
+described_leaves (Ok (Run t)) P other left = absurd (other t refl)
+described_leaves (Ok Check) P other left = left
+described_leaves (Ok (Plan t)) P other left = left
+described_leaves (Ok Targets) P other left = left
+described_leaves (Err fault) P other left = left
 
 -- ---- completeness
 
@@ -105,11 +159,22 @@ at_none (Some bytes) Q P R untold served refused = either (reading_of bytes)
     either (Ok w) = served
     either (Err f) = refused
 
+done_finishes : (command : Command) (before after : Outside) → WroteOwn Appends command before after → Finishes (reads command) before.left Done
+done_finishes (Run t) before after wrote = at_work before.left after.left wrote.work _ _ _ wrote.read (inl refl) (inl refl)
+done_finishes Check before after wrote = at_work before.left after.left wrote.work _ _ _ wrote.read (inl refl) (inl refl)
+done_finishes (Plan t) before after wrote = at_work before.left after.left wrote.work _ _ _ wrote.read (inl refl) (inl refl)
+done_finishes Targets before after wrote = inl refl
+
+memory_finishes : (r : Bool) (left : Option (List ℕ)) → Finishes r left NoMemory
+memory_finishes true left = at_none left _ _ _ (inr (inr refl)) (inr refl) (inr refl)
+memory_finishes false left = inr refl
+
 -- where no count rises, the status is the text's
-pub completes : (form : Bool) (before after : Outside) (status : Status) → Says form before after status → Completes form before after status
-completes form before after Done says = λ is no_read no_write. at_work before.left after.left says.1.work _ _ _ says.1.read (inl refl) (inl refl)
-completes form before after Refused says = λ is no_read no_write. at_fault before.left says.1.fault _ _ _ says.1.read (inr (inl refl)) (inl refl)
-completes form before after Usage says = λ is no_read no_write. absurd (cc (says, is))
-completes form before after ReadFault says = λ is no_read no_write. absurd (no_read says.1)
-completes form before after WriteFault says = λ is no_read no_write. absurd (no_write says.1)
-completes form before after NoMemory says = λ is no_read no_write. at_none before.left _ _ _ (inr (inr refl)) (inr refl) (inr refl)
+pub completes : (asked : Result Command WordsFault) (before after : Outside) (status : Status) → Says asked before after status → Completes asked before after status
+completes (Ok command) before after Done says = λ no_read no_write. done_finishes command before after says
+completes (Ok command) before after Refused says = λ no_read no_write. subst (λ (r : Bool). Finishes r before.left Refused) (sym says.0) (at_fault before.left says.1.fault _ _ _ says.1.read (inr (inl refl)) (inl refl))
+completes (Ok command) before after Usage says = λ no_read no_write. absurd says
+completes (Ok command) before after ReadFault says = λ no_read no_write. absurd (no_read says.1)
+completes (Ok command) before after WriteFault says = λ no_read no_write. absurd (no_write says.0)
+completes (Ok command) before after NoMemory says = λ no_read no_write. memory_finishes (reads command) before.left
+completes (Err fault) before after status says = tt

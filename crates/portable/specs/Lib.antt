@@ -1,5 +1,6 @@
-pub mod Form
 pub mod Outside
 pub mod Fits
 pub mod Ran
+pub mod Commands
+pub mod Texts
 pub mod Status

@@ -5,7 +5,8 @@ use Rattle.place_core.specs.declared.entry.Entry.{Entry}
 use Rattle.place_core.specs.Histories.{Each}
 use Rattle.place_core.specs.Cells.{HasTableReply}
 use Rattle.place_core.specs.Runs.{IsCellRun, replies_by, replies_from}
-use Rattle.work_lang.specs.Workload.{Workload, cells_of}
+use Rattle.place_core.specs.DeclaredObjects.{cells_of}
+use Rattle.work_lang.specs.Workload.{Workload}
 use Rattle.report_text.specs.Report.{AnswerThreads, AnswerObjects}
 
 -- the history is a run of the workload, and each reply is the table's; there is one such history

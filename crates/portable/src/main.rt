@@ -1,7 +1,9 @@
 //! `portable` runs workloads of calls on atomic objects and writes their reports.
 #![tactic(auto)]
 
+mod command;
 mod faults;
+mod own_texts;
 mod plain;
 mod real;
 mod status;
@@ -48,6 +50,8 @@ fn main(rt: HostRuntime) -> ExitCode {
     ExitCode::from(status as u8)
 }
 
+#[cfg(test)]
+mod describe_tests;
 #[cfg(test)]
 mod edge_tests;
 #[cfg(test)]

@@ -5,7 +5,8 @@ ghost use Rattle.std.specs.List.{AllByRecursion};
 ghost use Rattle.op_table.specs.Call.{CallFits};
 ghost use Rattle.place_core.specs.Plain.{answer_at, next_values, answers_to, values_after, asked_by, starts_of, end_values, thread_answers};
 ghost use Rattle.place_core.specs.Runs.{loads_from};
-ghost use Rattle.work_lang.specs.Workload.{IsObject, LineFits, cells_of};
+ghost use Rattle.place_core.specs.DeclaredObjects.{IsDeclared, cells_of};
+ghost use Rattle.work_lang.specs.Workload.{LineFits};
 ghost use Rattle.report_text.specs.Report.{items_of};
 ghost use Rattle.portable.specs.Fits.{ValuesFit};
 ghost use Rattle.portable.specs.Ran.{IsRunWith};
@@ -24,7 +25,7 @@ pub struct Ran {
 
 /// Makes a call on an object.
 fn step(objects: &[Declared], values: &mut [u128], number: u32, call: &Call) -> Reply
-    requires sound { AllByRecursion IsObject objects.now }
+    requires sound { AllByRecursion IsDeclared objects.now }
     requires fits { IsSomeAnd (slice_get objects.now number) (λ d. CallFits d.kind call.now) }
     requires values { ValuesFit (cells_of objects.now) values.old }
     ensures reply { result ≡ answer_at (cells_of objects.now) values.old (number, call.now) }
@@ -41,7 +42,7 @@ fn step(objects: &[Declared], values: &mut [u128], number: u32, call: &Call) -> 
 
 /// Makes the calls of a script, in order, and keeps the replies.
 fn run_script(objects: &[Declared], values: &mut [u128], script: &Script, replies: &mut Replies)
-    requires sound { AllByRecursion IsObject objects.now }
+    requires sound { AllByRecursion IsDeclared objects.now }
     requires fits { AllByRecursion (LineFits objects.now) script.now }
     requires values { ValuesFit (cells_of objects.now) values.old }
     requires room { length script.now ≤ replies.old.spare }
@@ -59,7 +60,7 @@ fn run_script(objects: &[Declared], values: &mut [u128], script: &Script, replie
 
 /// Loads every object, in declared order, and keeps the replies.
 fn run_loads(objects: &[Declared], values: &mut [u128], replies: &mut Replies)
-    requires sound { AllByRecursion IsObject objects.now }
+    requires sound { AllByRecursion IsDeclared objects.now }
     requires few { length objects.now ≤ 1024 }
     requires values { ValuesFit (cells_of objects.now) values.old }
     requires room { length objects.now ≤ replies.old.spare }
@@ -94,7 +95,7 @@ fn run_threads(
     values: &mut [u128],
     threads: &[Script],
 ) -> Result<Vec<Replies>, NoMemory>
-    requires sound { AllByRecursion IsObject objects.now }
+    requires sound { AllByRecursion IsDeclared objects.now }
     requires fits { AllByRecursion (AllByRecursion (LineFits objects.now)) threads.now }
     requires values { ValuesFit (cells_of objects.now) values.old }
     ensures replies { IfOk result (λ v. map items_of v.items ≡ thread_answers (cells_of objects.now) values.old threads.now) }
@@ -121,7 +122,7 @@ fn run_from(
     values: &mut [u128],
     threads: &[Script],
 ) -> Result<Ran, NoMemory>
-    requires sound { AllByRecursion IsObject objects.now }
+    requires sound { AllByRecursion IsDeclared objects.now }
     requires fits { AllByRecursion (AllByRecursion (LineFits objects.now)) threads.now }
     requires few { length objects.now ≤ 1024 }
     requires values { ValuesFit (cells_of objects.now) values.old }

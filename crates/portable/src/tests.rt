@@ -119,13 +119,21 @@ fn keeps_nothing_of_a_fault_that_cannot_be_told(rt: HostRuntime) -> Result<(), F
 #[test]
 fn refuses_other_words(rt: HostRuntime) -> Result<(), Fail> {
     let alloc = rt.alloc();
-    let cases: [&[&str]; 6] = [
+    let cases: [&[&str]; 14] = [
         &[],
-        &["check"],
-        &["run", "run"],
-        &["--help"],
-        &["run", "--target", "full64"],
         &[""],
+        &["--help"],
+        &["RUN"],
+        &["run", "run"],
+        &["run", "--target"],
+        &["run", "--target", "none"],
+        &["run", "--target", "full64", "full64"],
+        &["run", "full64", "--target"],
+        &["run", "--target=full64"],
+        &["plan", "--target", "64"],
+        &["check", "--target", "full64"],
+        &["targets", ""],
+        &["many", "7", "1", "0"],
     ];
     for words in cases {
         let words = words_of(alloc, words)?;

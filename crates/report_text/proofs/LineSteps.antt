@@ -6,7 +6,9 @@ use Rattle.op_table.specs.declared.call.Reply.{Reply}
 use Rattle.place_core.specs.RepliesState.{RepliesState}
 use Rattle.place_core.specs.declared.name.Declared.{Declared}
 use Rattle.place_core.specs.declared.script.Line.{Line}
+use Rattle.target_desc.specs.declared.target.Target.{Target}
 use Rattle.work_lang.specs.Workload.{Workload}
+use Rattle.work_lang.specs.Canonical.{target_line}
 use Rattle.report_text.specs.Report.{lines_with, reply_line, reply_lines, thread_head, thread_lines, last_line, last_lines, items_of, AnswerLines, AnswerThreads}
 use Rattle.place_core.proofs.PlainReplies.{drop-next}
 use Rattle.work_lang.proofs.Firsts.{others, others-cons, item_others}
@@ -44,7 +46,8 @@ pub last_lines_end : (ds : List Declared) (rs : List Reply) (i : ℕ) → length
 last_lines_end ds rs i past = ap (λ x. last_lines x (drop i rs)) (drop_all i ds past)
 
 -- the parts of a report, of the objects and threads of its workload
-pub lines_made : (w : Workload) (os : List Declared) (ts : List (List Line)) (replies : List (List Reply)) (last : List Reply) → os ≡ w.objects → ts ≡ w.threads → (codes "target full64\n" ∷ []) ++ (thread_lines os 1 ts replies ++ ((codes "last\n" ∷ []) ++ last_lines os last)) ≡ lines_with w replies last
-lines_made w os ts replies last objects threads =
-    ap (λ x. codes "target full64\n" ∷ (thread_lines x 1 ts replies ++ codes "last\n" ∷ last_lines x last)) objects
-    ∙ ap (λ x. codes "target full64\n" ∷ (thread_lines w.objects 1 x replies ++ codes "last\n" ∷ last_lines w.objects last)) threads
+pub lines_made : (w : Workload) (t : Target) (os : List Declared) (ts : List (List Line)) (replies : List (List Reply)) (last : List Reply) → t ≡ w.target → os ≡ w.objects → ts ≡ w.threads → (target_line t ∷ []) ++ (thread_lines os 1 ts replies ++ ((codes "last\n" ∷ []) ++ last_lines os last)) ≡ lines_with w replies last
+lines_made w t os ts replies last target objects threads =
+    ap (λ x. target_line x ∷ (thread_lines os 1 ts replies ++ codes "last\n" ∷ last_lines os last)) target
+    ∙ ap (λ x. target_line w.target ∷ (thread_lines x 1 ts replies ++ codes "last\n" ∷ last_lines x last)) objects
+    ∙ ap (λ x. target_line w.target ∷ (thread_lines w.objects 1 x replies ++ codes "last\n" ∷ last_lines w.objects last)) threads

@@ -16,6 +16,7 @@ use Rattle.work_lang.specs.Spelling.{Pairs}
 use Rattle.work_lang.specs.Workload.{Workload}
 use Rattle.work_lang.specs.Reading.{kind_at}
 use Rattle.work_lang.specs.Print.{call_line}
+use Rattle.work_lang.specs.Canonical.{target_line}
 
 -- ---- lines
 
@@ -56,7 +57,7 @@ last_lines (d ∷ ds) (r ∷ rs) = last_line d r ∷ last_lines ds rs
 
 -- the lines with these replies of the threads and of the last loads
 abbrev pub lines_with : Workload → List (List Reply) → List Reply → List (List ℕ)
-lines_with w replies last = codes "target full64\n" ∷ (thread_lines w.objects 1 w.threads replies ++ codes "last\n" ∷ last_lines w.objects last)
+lines_with w replies last = target_line w.target ∷ (thread_lines w.objects 1 w.threads replies ++ codes "last\n" ∷ last_lines w.objects last)
 
 -- ---- of a history
 

@@ -5,14 +5,15 @@ ghost use Rattle.std.specs.List.{AllByRecursion};
 ghost use Rattle.op_table.specs.Kind.{IsKind};
 ghost use Rattle.op_table.specs.Call.{ReplyFits};
 ghost use Rattle.work_lang.specs.Streams.{Writes};
-ghost use Rattle.work_lang.specs.Workload.{IsObject, LineFits, HasLine};
+ghost use Rattle.place_core.specs.DeclaredObjects.{IsDeclared};
+ghost use Rattle.work_lang.specs.Workload.{LineFits, HasLine};
 ghost use Rattle.work_lang.specs.Reading.{kind_at};
 ghost use Rattle.report_text.specs.Report.{reply_line, reply_lines, thread_head, thread_lines, last_line, last_lines, lines_with, AnswerLines, AnswerThreads, AnswerObjects, items_of};
 
 use crate::replies::push_reply;
 use op_table::{LineBuf, Reply};
 use place_core::{Declared, Line, Replies, Script};
-use work_lang::{Sink, Work, WriteEnd, push_call, write_all};
+use work_lang::{Sink, Work, WriteEnd, push_call, write_all, write_target};
 
 /// Writes a call with its reply.
 fn write_reply<K: Sink>(
@@ -40,7 +41,7 @@ fn write_calls<K: Sink>(
     replies: &Replies,
     sink: &mut K,
 ) -> Result<(), WriteEnd>
-    requires sound { AllByRecursion IsObject objects.now }
+    requires sound { AllByRecursion IsDeclared objects.now }
     requires fits { AllByRecursion (LineFits objects.now) script.now }
     requires answers { AnswerLines objects.now script.now replies.now.items }
     ensures { Writes K.taken K.faults sink.old sink.new result (reply_lines objects.now script.now replies.now.items) }
@@ -74,7 +75,7 @@ fn write_threads<K: Sink>(
     replies: &[Replies],
     sink: &mut K,
 ) -> Result<(), WriteEnd>
-    requires sound { AllByRecursion IsObject objects.now }
+    requires sound { AllByRecursion IsDeclared objects.now }
     requires fits { AllByRecursion (AllByRecursion (LineFits objects.now)) threads.now }
     requires answers { AnswerThreads objects.now threads.now (map items_of replies.now) }
     requires few { length threads.now ≤ 64 }
@@ -104,7 +105,7 @@ fn write_threads<K: Sink>(
 
 /// Writes an object and what its last load replied.
 fn write_last_value<K: Sink>(object: &Declared, reply: &Reply, sink: &mut K) -> Result<(), WriteEnd>
-    requires sound { IsObject object.now }
+    requires sound { IsDeclared object.now }
     requires fits { ReplyFits object.now.kind reply.now }
     ensures { Writes K.taken K.faults sink.old sink.new result (last_line object.now reply.now ∷ []) }
 {
@@ -119,7 +120,7 @@ fn write_last_value<K: Sink>(object: &Declared, reply: &Reply, sink: &mut K) -> 
 
 /// Writes the last values.
 fn write_last<K: Sink>(objects: &[Declared], last: &Replies, sink: &mut K) -> Result<(), WriteEnd>
-    requires sound { AllByRecursion IsObject objects.now }
+    requires sound { AllByRecursion IsDeclared objects.now }
     requires answers { AnswerObjects objects.now last.now.items }
     ensures { Writes K.taken K.faults sink.old sink.new result (last_lines objects.now last.now.items) }
 {
@@ -134,8 +135,8 @@ fn write_last<K: Sink>(objects: &[Declared], last: &Replies, sink: &mut K) -> Re
     Ok(())
 }
 
-/// Writes the report of a run of the workload, line by line, each with its end as one piece: the replies of each
-/// thread, one a call in order, and the last values, one an object in declared order. It takes no memory. At Fault,
+/// Writes the report of a run of the workload, line by line, each with its end as one piece: the target, the replies of
+/// each thread, one a call in order, and the last values, one an object in declared order. It takes no memory. At Fault,
 /// which comes only where the sink's count rose, what was taken is a front of the report.
 pub fn report<K: Sink>(
     work: &Work,
@@ -147,9 +148,10 @@ pub fn report<K: Sink>(
     requires last { AnswerObjects work.now.objects last.now.items }
     ensures { Writes K.taken K.faults sink.old sink.new result (lines_with work.now (map items_of replies.now) last.now.items) }
 {
+    let target = work.target();
     let objects = work.objects();
     let threads = work.threads();
-    match write_all(b"target full64\n", sink) {
+    match write_target(target, sink) {
         Ok(()) => {}
         Err(end) => return Err(end),
     }

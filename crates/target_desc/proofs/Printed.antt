@@ -35,7 +35,7 @@ tested most text is =
     let inner = and_parts _ _ outer.1 in
     record { some = ltb-true _ _ outer.0; short = leb-true _ _ inner.0; plain = inner.1 }
 
-longer : (low high : ℕ) (text : List ℕ) → low ≤ high → IsWordUpTo low text → IsWordUpTo high text
+pub longer : (low high : ℕ) (text : List ℕ) → low ≤ high → IsWordUpTo low text → IsWordUpTo high text
 longer low high text more is = record { some = is.some; short = omega (arith, is.short); plain = is.plain }
 
 packed_plain : (packed : Bool) → IsWordUpTo 6 (packed_word packed)
@@ -86,17 +86,17 @@ name_plain name t (inr (inr (inr (inr (inr none))))) = absurd none
 
 -- ---- words of a text
 
-no_spaces : (w : List ℕ) → list_all is_word_byte w ≡ true → AllByRecursion (λ b. eqb b 32 ≡ false) w
+pub no_spaces : (w : List ℕ) → list_all is_word_byte w ≡ true → AllByRecursion (λ b. eqb b 32 ≡ false) w
 no_spaces [] plain = tt
 no_spaces (b ∷ bs) plain =
     let parts = and_parts (is_word_byte b) (list_all is_word_byte bs) plain in
     let above = and_parts (ltb 32 b) (ltb b 127) parts.0 in
     (ne_eqb b 32 (λ e. omega (arith, ltb-true _ _ above.0)), no_spaces bs parts.1)
 
-kept : (w : List ℕ) (ws : List (List ℕ)) → 0 < length w → filter is_some_word (w ∷ ws) ≡ w ∷ filter is_some_word ws
+pub kept : (w : List ℕ) (ws : List (List ℕ)) → 0 < length w → filter is_some_word (w ∷ ws) ≡ w ∷ filter is_some_word ws
 kept w ws some = rw (lt-ltb 0 (length w) some) refl
 
-words_of_joined : (most : ℕ) (ws : List (List ℕ)) → AllByRecursion (IsWordUpTo most) ws → words_of (join_with_byte 32 ws) ≡ ws
+pub words_of_joined : (most : ℕ) (ws : List (List ℕ)) → AllByRecursion (IsWordUpTo most) ws → words_of (join_with_byte 32 ws) ≡ ws
 unfolding words_of
 words_of_joined most [] all = refl
 words_of_joined most (w ∷ []) all =
@@ -106,7 +106,7 @@ words_of_joined most (w ∷ v ∷ ws) all =
     ∙ kept w (slice_split (λ b. eqb b 32) (join_with_byte 32 (v ∷ ws))) all.0.some
     ∙ ap (λ (x : List (List ℕ)). w ∷ x) (words_of_joined most (v ∷ ws) all.1)
 
-word_prints : (w : List ℕ) → list_all is_word_byte w ≡ true → list_all is_printable w ≡ true
+pub word_prints : (w : List ℕ) → list_all is_word_byte w ≡ true → list_all is_printable w ≡ true
 word_prints [] plain = refl
 word_prints (b ∷ bs) plain =
     let parts = and_parts (is_word_byte b) (list_all is_word_byte bs) plain in
@@ -115,13 +115,13 @@ word_prints (b ∷ bs) plain =
     let high : b < 127 = ltb-true b 127 byte.1 in
     and_from _ _ (and_from _ _ (le-leb 32 b (omega arith)) (le-leb b 126 (omega arith))) (word_prints bs parts.1)
 
-both_print : (xs ys : List ℕ) → list_all is_printable xs ≡ true → list_all is_printable ys ≡ true → list_all is_printable (xs ++ ys) ≡ true
+pub both_print : (xs ys : List ℕ) → list_all is_printable xs ≡ true → list_all is_printable ys ≡ true → list_all is_printable (xs ++ ys) ≡ true
 both_print [] ys x y = y
 both_print (b ∷ bs) ys x y =
     let parts = and_parts (is_printable b) (list_all is_printable bs) x in
     and_from _ _ parts.0 (both_print bs ys parts.1 y)
 
-joined_prints : (most : ℕ) (ws : List (List ℕ)) → AllByRecursion (IsWordUpTo most) ws → list_all is_printable (join_with_byte 32 ws) ≡ true
+pub joined_prints : (most : ℕ) (ws : List (List ℕ)) → AllByRecursion (IsWordUpTo most) ws → list_all is_printable (join_with_byte 32 ws) ≡ true
 joined_prints most [] all = refl
 joined_prints most (w ∷ []) all = word_prints w all.0.plain
 joined_prints most (w ∷ v ∷ ws) all = both_print w (32 ∷ join_with_byte 32 (v ∷ ws)) (word_prints w all.0.plain) (joined_prints most (v ∷ ws) all.1)
@@ -170,7 +170,7 @@ described_short t is =
 pub text_is_short : TextIsShort
 text_is_short t is = by_name t (λ ws. length (join_with_byte 32 ws) ≤ 40) (λ name n. omega (arith, (name_plain name t n).short)) (described_short t is)
 
-says_itself : (t : Target) → IsTarget t → IsTargetText (target_words t) t
+pub says_itself : (t : Target) → IsTarget t → IsTargetText (target_words t) t
 says_itself t is = by_name t (λ ws. IsTargetText ws t) (λ name n. inl (name, refl, n)) (inr (is, refl))
 
 pub printed_is_read : PrintedIsRead

@@ -22,7 +22,8 @@ use Rattle.work_lang.specs.Limits.{most_calls, most_calls_in_all}
 use Rattle.work_lang.specs.Operands.{form_of, operands_of, HasPosition}
 use Rattle.work_lang.specs.CallOrders.{orders_of}
 use Rattle.work_lang.specs.Slips.{word_at, need_at, check_at}
-use Rattle.work_lang.specs.Workload.{object_of, IsObject, HasLine, LineFits}
+use Rattle.place_core.specs.DeclaredObjects.{IsDeclared}
+use Rattle.work_lang.specs.Workload.{object_of, HasLine, LineFits}
 use Rattle.work_lang.specs.Reading.{orders_at, operation_at, kind_at, kind_in, call_at}
 use Rattle.work_lang.specs.Spelling.{IsSaid, AreOrders, IsOperation}
 use Rattle.work_lang.proofs.Steps.{check_then, word_then, need_then, bind_then, chosen, ok_is, some_is, none_some, is_word}
@@ -103,12 +104,12 @@ abbrev line : ℕ → Call → Order → Option Order → Line
 line object call success failure = record { object = object; call = call; success = success; failure = failure }
 
 -- a call line, once its parts are found
-takes_parts : (objects : List Declared) (calls all object k : ℕ) (w v : List ℕ) (ws rest : List (List ℕ)) (call : Call × Cursor) (o : Orders) → AllByRecursion IsObject objects → object_of objects w ≡ Some object → (ltb calls most_calls && ltb all most_calls_in_all) ≡ true → ws ≡ v ∷ rest
+takes_parts : (objects : List Declared) (calls all object k : ℕ) (w v : List ℕ) (ws rest : List (List ℕ)) (call : Call × Cursor) (o : Orders) → AllByRecursion IsDeclared objects → object_of objects w ≡ Some object → (ltb calls most_calls && ltb all most_calls_in_all) ≡ true → ws ≡ v ∷ rest
     → operation_at (kind_at objects object) v (record { taken = k; left = rest }) ≡ Ok call → orders_at call.0 call.1 ≡ Ok o → TakesCall objects calls all (line object call.0 o.success o.failure) (w ∷ ws)
 takes_parts objects calls all object k w v ws rest call o known found few ws-is op-is order-is =
     let d = named objects w object found in
     let limits = and_parts (ltb calls most_calls) (ltb all most_calls_in_all) few in
-    let is : IsKind d.0.kind = (all_at IsObject objects object d.0 known d.1).0 in
+    let is : IsKind d.0.kind = (all_at IsDeclared objects object d.0 known d.1).0 in
     let kind-is : kind_at objects object ≡ d.0.kind = ap kind_in d.1 in
     let ops = operation_takes d.0.kind v (record { taken = k; left = rest }) call is (subst (λ (kind : Kind). operation_at kind v (record { taken = k; left = rest }) ≡ Ok call) kind-is op-is) in
     let ord = orders_takes call.0 call.1 o order-is in
@@ -119,7 +120,7 @@ takes_parts objects calls all object k w v ws rest call o known found few ws-is 
       said = (d.0, d.1, ops.words, call.1.left, ops.said, ord.said, joined w d.0.name v ws rest (ops.words ++ call.1.left) d.2 ws-is ops.all);
     }
 
-pub call_takes : (objects : List Declared) (calls all : ℕ) (w : List ℕ) (c : Cursor) (i : Item) → AllByRecursion IsObject objects → call_at objects calls all w c ≡ Ok i → (l : Line) × (items.Call l ≡ i) × TakesCall objects calls all l (w ∷ c.left)
+pub call_takes : (objects : List Declared) (calls all : ℕ) (w : List ℕ) (c : Cursor) (i : Item) → AllByRecursion IsDeclared objects → call_at objects calls all w c ≡ Ok i → (l : Line) × (items.Call l ≡ i) × TakesCall objects calls all l (w ∷ c.left)
 unfolding call_at
 call_takes objects calls all w c i known e =
     let o = need_then c causes.UnknownName (object_of objects w) _ i e in

@@ -9,15 +9,15 @@ use Rattle.work_lang.specs.declared.item.Item.TheVariants as items
 use Rattle.work_lang.specs.declared.item.Awaits.{Awaits}
 use Rattle.work_lang.specs.declared.item.Awaits.TheVariants as awaits
 use Rattle.work_lang.specs.Workload.{Workload, IsWork}
-use Rattle.work_lang.specs.Reading.{State, Fault, next, ended}
+use Rattle.work_lang.specs.Reading.{State, Fault, next, work_of, ended}
 use Rattle.work_lang.specs.Spelling.{IsSaid, Pairs, thread_items, items_of}
 use Rattle.work_lang.specs.Kept.{Allowed, IsKept}
-use Rattle.work_lang.proofs.Keeping.{at_awaits, step_kept, of_state, work_kept}
+use Rattle.work_lang.proofs.Keeping.{at_awaits, step_kept, work_kept}
 use Rattle.work_lang.proofs.Walks.{Walk}
 
 -- the items of whole threads
 abbrev pub head_items : State → List Item
-head_items s = items.Version ∷ items.Target ∷ (map items.Object s.objects ++ flat_map thread_items s.threads)
+head_items s = items.Version ∷ items.Target s.target ∷ (map items.Object s.objects ++ flat_map thread_items s.threads)
 
 -- what the lines so far said
 abbrev pub said_by_then : Awaits → State → List Item
@@ -29,12 +29,12 @@ said_by_then awaits.Call s = head_items s ++ (items.Thread ∷ map items.Call s.
 
 step_said : (s : State) (i : Item) → IsKept s → Allowed s i → said_by_then (next s i).awaits (next s i) ≡ said_by_then s.awaits s ++ i ∷ []
 step_said s items.Version k a = rw a refl
-step_said s items.Target k a =
-    let h = at_awaits s awaits.Target a k in
-    rw (a, h.0, h.1) refl
+step_said s (items.Target t) k a =
+    let h = at_awaits s awaits.Target a.0 k in
+    rw (a.0, h.0, h.1) refl
 step_said s (items.Object d) k a =
     let h = at_awaits s awaits.Object a.0 k in
-    rw (a.0, h.0) (ap (λ (is : List Item). items.Version ∷ items.Target ∷ is) (append-nil (map items.Object (s.objects ++ d ∷ [])) ∙ map_push items.Object s.objects d ∙ ap (λ (is : List Item). is ++ items.Object d ∷ []) (sym (append-nil (map items.Object s.objects)))))
+    rw (a.0, h.0) (ap (λ (is : List Item). items.Version ∷ items.Target s.target ∷ is) (append-nil (map items.Object (s.objects ++ d ∷ [])) ∙ map_push items.Object s.objects d ∙ ap (λ (is : List Item). is ++ items.Object d ∷ []) (sym (append-nil (map items.Object s.objects)))))
 step_said s items.Thread k a = by a.0
   where
     by : ((s.awaits ≡ awaits.Object) ⊎ (s.awaits ≡ awaits.Thread)) → said_by_then awaits.Call s ≡ said_by_then s.awaits s ++ items.Thread ∷ []
@@ -66,7 +66,7 @@ past_same s [] [] t past walk = ap (λ (x : State). x.objects) walk
 past_same s [] (ws ∷ wss) t past walk = absurd walk
 past_same s (i ∷ is) [] t past walk = absurd walk
 past_same s (items.Version ∷ is) (ws ∷ wss) t past walk = absurd (subst IsPast walk.0.allowed past)
-past_same s (items.Target ∷ is) (ws ∷ wss) t past walk = absurd (subst IsPast walk.0.allowed past)
+past_same s (items.Target x ∷ is) (ws ∷ wss) t past walk = absurd (subst IsPast walk.0.allowed.0 past)
 past_same s (items.Object d ∷ is) (ws ∷ wss) t past walk = absurd (subst IsPast walk.0.allowed.0 past)
 past_same s (items.Thread ∷ is) (ws ∷ wss) t past walk = past_same (next s items.Thread) is wss t tt walk.1
 past_same s (items.Call l ∷ is) (ws ∷ wss) t past walk = past_same (next s (items.Call l)) is wss t past walk.1
@@ -77,7 +77,7 @@ walk_pairs s [] [] t walk = tt
 walk_pairs s [] (ws ∷ wss) t walk = absurd walk
 walk_pairs s (i ∷ is) [] t walk = absurd walk
 walk_pairs s (items.Version ∷ is) (ws ∷ wss) t walk = (walk.0.said, walk_pairs (next s items.Version) is wss t walk.1)
-walk_pairs s (items.Target ∷ is) (ws ∷ wss) t walk = (walk.0.said, walk_pairs (next s items.Target) is wss t walk.1)
+walk_pairs s (items.Target x ∷ is) (ws ∷ wss) t walk = (walk.0.said, walk_pairs (next s (items.Target x)) is wss t walk.1)
 walk_pairs s (items.Object d ∷ is) (ws ∷ wss) t walk = (walk.0.said, walk_pairs (next s (items.Object d)) is wss t walk.1)
 walk_pairs s (items.Thread ∷ is) (ws ∷ wss) t walk = (walk.0.said, walk_pairs (next s items.Thread) is wss t walk.1)
 walk_pairs s (items.Call l ∷ is) (ws ∷ wss) t walk =
@@ -98,7 +98,7 @@ read w = Ok w
 read_is : (v w : Workload) → read v ≡ read w → v ≡ w
 read_is v w e = cc
 
-found : (t : State) (w : Workload) → IsKept t → said_by_then t.awaits t ≡ head_items t → of_state t ≡ w → IsFound t w
+found : (t : State) (w : Workload) → IsKept t → said_by_then t.awaits t ≡ head_items t → work_of t ≡ w → IsFound t w
 found t w k e w-is = subst (IsFound t) w-is (record { work = work_kept t k; items = e; objects = refl })
 
 pub end_found : (a : Awaits) (t : State) (n : ℕ) (w : Workload) → t.awaits ≡ a → IsKept t → ended a t n ≡ Ok w → IsFound t w

@@ -6,6 +6,7 @@ use Rattle.std.specs.Str.{bytes_eq}
 use Rattle.std.proofs.lemmas.Bool.{not-true, not-false}
 use Rattle.line_words.specs.Text.{words_of}
 use Rattle.line_words.specs.Cursor.{Cursor}
+use Rattle.target_desc.specs.Spelling.{IsTargetText}
 use Rattle.place_core.specs.declared.name.Declared.{Declared}
 use Rattle.place_core.specs.declared.script.Line.{Line}
 use Rattle.work_lang.specs.declared.fault.Cause.TheVariants as causes
@@ -14,7 +15,8 @@ use Rattle.work_lang.specs.declared.item.Item.TheVariants as items
 use Rattle.work_lang.specs.declared.item.Awaits.{Awaits}
 use Rattle.work_lang.specs.declared.item.Awaits.TheVariants as awaits
 use Rattle.work_lang.specs.Slips.{slip, end_at}
-use Rattle.work_lang.specs.Workload.{IsObject, HasLine, LineFits}
+use Rattle.place_core.specs.DeclaredObjects.{IsDeclared}
+use Rattle.work_lang.specs.Workload.{HasLine, LineFits}
 use Rattle.work_lang.specs.Reading.{State, all_calls, next, next_if, awaited_at, item_at, first_thread_at, next_thread_at, in_thread_at, said_by, content_at, after_line, is_comment, is_printable, thread_at}
 use Rattle.work_lang.specs.Spelling.{IsSaid, speaks}
 use Rattle.work_lang.specs.Kept.{Allowed, IsKept}
@@ -46,7 +48,7 @@ by_awaits awaits.Version s w c i k a e =
     subst (λ (x : Item). Takes s x (w ∷ c.left)) t.0 (record { allowed = a; said = t.1 })
 by_awaits awaits.Target s w c i k a e =
     let t = target_takes w c i e in
-    subst (λ (x : Item). Takes s x (w ∷ c.left)) t.0 (record { allowed = a; said = t.1 })
+    subst (λ (x : Item). Takes s x (w ∷ c.left)) t.1 (record { allowed = (a, t.3.target); said = (c.left, t.3.said, ap (λ (v : List ℕ). v ∷ c.left) t.2) })
 by_awaits awaits.Object s w c i k a e =
     elim (chosen (bytes_eq w (codes "object")) _ _ (Ok i) e) [
       | inl p ↦
@@ -90,11 +92,11 @@ item_again s w ws items.Version ok t =
     let w-is : w ≡ codes "work" = cc in
     let ws-is : ws ≡ codes "1" ∷ [] = cc in
     rw (t.allowed, w-is, ws-is) (version_again (record { taken = 1; left = codes "1" ∷ [] }) refl)
-item_again s w ws items.Target ok t =
-    let e = t.said in
+item_again s w ws (items.Target x) ok t =
+    let e = t.said.2 in
     let w-is : w ≡ codes "target" = cc in
-    let ws-is : ws ≡ codes "full64" ∷ [] = cc in
-    rw (t.allowed, w-is) (target_again (record { taken = 1; left = ws }) ws-is)
+    let ws-is : t.said.0 ≡ ws = cc in
+    rw (t.allowed.0, w-is) (target_again (record { taken = 1; left = ws }) x (subst (λ (v : List (List ℕ)). IsTargetText v x) ws-is t.said.1))
 item_again s w ws (items.Object d) ok t =
     let e = t.said.4 in
     let w-is : w ≡ codes "object" = cc in
@@ -114,7 +116,7 @@ item_again s w ws (items.Call l) ok t =
     let e = t.said.6 in
     let w-is : w ≡ d.name = cc in
     let not_end : bytes_eq w (codes "end") ≡ false = rw w-is (name_is_not_end d.name (declared_is_name [] s.objects ok.names l.object d t.said.1)) in
-    rw (t.allowed.0, not_end) (call_again s.objects (length s.lines) (all_calls s) l d 1 w ws t.allowed.1 t.allowed.3 (all_at IsObject s.objects l.object d ok.each t.said.1).0 (line_has s.objects l d t.said.1 t.allowed.2) t.said.1 (named_again [] s.objects ok.names l.object d t.said.1 ∙ ap (λ (n : ℕ). Some n) (omega arith)) t.said.2 t.said.3 t.said.4 t.said.5 e)
+    rw (t.allowed.0, not_end) (call_again s.objects (length s.lines) (all_calls s) l d 1 w ws t.allowed.1 t.allowed.3 (all_at IsDeclared s.objects l.object d ok.each t.said.1).0 (line_has s.objects l d t.said.1 t.allowed.2) t.said.1 (named_again [] s.objects ok.names l.object d t.said.1 ∙ ap (λ (n : ℕ). Some n) (omega arith)) t.said.2 t.said.3 t.said.4 t.said.5 e)
 item_again s w ws items.End ok t =
     let e = t.said in
     let w-is : w ≡ codes "end" = cc in

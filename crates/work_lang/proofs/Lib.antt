@@ -15,6 +15,8 @@ pub mod OperandForms
 pub mod OperandTexts
 pub mod OrderTexts
 pub mod Pieces
+pub mod CanonicalSteps
+pub mod CanonicalTexts
 pub mod Runs
 pub mod Spelled
 pub mod Steps

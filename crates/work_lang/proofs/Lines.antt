@@ -1,15 +1,21 @@
 -- A line that is read says the item, and a line that says an item is read.
-use Rattle.std.proofs.Common.{◌≡◌, ℕ, ◌<◌, ltb, true, not, ◌&&◌, eqb, List, [], ◌∷◌, length, Option, Some, None, Ok, refl, ap, subst, inl, inr}
+use Rattle.std.proofs.Common.{◌≡◌, ℕ, ◌<◌, ltb, true, not, List, [], ◌∷◌, length, Option, Some, None, Result, Ok, Err, refl, ap, subst, inl, inr}
 use Rattle.std.specs.Prelude.{codes}
 use Rattle.std.specs.Str.{bytes_eq}
 use Rattle.std.specs.Option.{is_some}
-use Rattle.std.proofs.lemmas.Bool.{ltb-true, lt-ltb, and_parts}
+use Rattle.std.proofs.lemmas.Bool.{ltb-true, lt-ltb}
 use Rattle.line_words.specs.Cursor.{Cursor}
 use Rattle.op_table.specs.Value.{parsed_value}
 use Rattle.op_table.specs.declared.kind.Kind.{Kind}
 use Rattle.op_table.specs.Kind.{IsKind}
 use Rattle.op_table.specs.Words.{kind_of_word}
 use Rattle.op_table.proofs.ValueTexts.{read_is_value}
+use Rattle.target_desc.specs.declared.target.Target.{Target}
+use Rattle.target_desc.specs.declared.reading.TargetFault.{TargetFault}
+use Rattle.target_desc.specs.Target.{IsTarget}
+use Rattle.target_desc.specs.Reading.{target_at}
+use Rattle.target_desc.specs.Spelling.{IsTargetText}
+use Rattle.target_desc.proofs.Readings.{reading_is_spelling, read_is_target}
 use Rattle.place_core.specs.declared.name.Declared.{Declared}
 use Rattle.place_core.specs.Name.{name_of, is_name}
 use Rattle.work_lang.specs.declared.fault.Cause.TheVariants as causes
@@ -17,10 +23,11 @@ use Rattle.work_lang.specs.declared.item.Item.{Item}
 use Rattle.work_lang.specs.declared.item.Item.TheVariants as items
 use Rattle.work_lang.specs.Limits.{most_objects, most_threads}
 use Rattle.work_lang.specs.Slips.{word_at, end_at, need_at, check_at, value_at}
-use Rattle.work_lang.specs.Workload.{object_of, IsObject}
-use Rattle.work_lang.specs.Reading.{version_at, target_at, object_at, thread_at}
+use Rattle.place_core.specs.DeclaredObjects.{IsDeclared}
+use Rattle.work_lang.specs.Workload.{object_of}
+use Rattle.work_lang.specs.Reading.{version_at, target_or, target_line_at, object_at, thread_at}
 use Rattle.work_lang.specs.Spelling.{IsSaid}
-use Rattle.work_lang.proofs.Steps.{check_then, word_then, end_then, need_then, value_then, chosen, ok_is, some_is, none_some, is_word, no_words}
+use Rattle.work_lang.proofs.Steps.{bind_then, check_then, word_then, end_then, need_then, value_then, chosen, ok_is, some_is, none_some, is_word}
 use Rattle.work_lang.proofs.Values.{kind_is_one}
 
 two : (w v a b : List ℕ) (ws rest : List (List ℕ)) → w ≡ a → ws ≡ v ∷ rest → v ≡ b → rest ≡ [] → w ∷ ws ≡ a ∷ b ∷ []
@@ -39,18 +46,27 @@ pub version_again : (c : Cursor) → c.left ≡ codes "1" ∷ [] → version_at 
 unfolding version_at check_at word_at end_at
 version_again c e = rw e refl
 
-pub target_takes : (w : List ℕ) (c : Cursor) (i : Item) → target_at w c ≡ Ok i → (items.Target ≡ i) × (w ∷ c.left ≡ codes "target" ∷ codes "full64" ∷ [])
-unfolding target_at
+-- ---- targets
+
+target_or_ok : (r : Result Target TargetFault) (t : Target) → target_or r ≡ Ok t → r ≡ Ok t
+target_or_ok (Ok s) t e = cc
+target_or_ok (Err f) t e = absurd cc
+
+pub record TakesTarget (t : Target) (ws : List (List ℕ)) : Type 0 where
+  pub target : IsTarget t
+  pub said : IsTargetText ws t
+
+pub target_takes : (w : List ℕ) (c : Cursor) (i : Item) → target_line_at w c ≡ Ok i → (t : Target) × (items.Target t ≡ i) × (w ≡ codes "target") × TakesTarget t c.left
+unfolding target_line_at
 target_takes w c i e =
     let a = check_then c causes.UnknownWord (bytes_eq w (codes "target")) _ i e in
-    let n = word_then c _ i a.1 in
-    let t = check_then _ causes.BadTarget (eqb (length n.1) 0 && bytes_eq n.0 (codes "full64")) _ i n.3 in
-    let both = and_parts (eqb (length n.1) 0) (bytes_eq n.0 (codes "full64")) t.0 in
-    (ok_is _ _ t.1, two _ _ _ _ _ _ (is_word _ _ a.0) n.2 (is_word _ _ both.1) (no_words _ both.0))
+    let t = bind_then (target_or (target_at c)) _ i a.1 in
+    let read = target_or_ok (target_at c) t.0 t.1 in
+    (t.0, ok_is _ _ t.2, is_word _ _ a.0, record { target = read_is_target c t.0 read; said = (reading_is_spelling c t.0).0 read })
 
-pub target_again : (c : Cursor) → c.left ≡ codes "full64" ∷ [] → target_at (codes "target") c ≡ Ok items.Target
-unfolding target_at check_at word_at
-target_again c e = rw e refl
+pub target_again : (c : Cursor) (t : Target) → IsTargetText c.left t → target_line_at (codes "target") c ≡ Ok (items.Target t)
+unfolding target_line_at check_at
+target_again c t said = rw ((reading_is_spelling c t).1 said) refl
 
 -- ---- objects
 
@@ -76,7 +92,7 @@ pub record TakesObject (objects : List Declared) (d : Declared) (ws : List (List
   pub few : length objects < most_objects
   pub is_name : is_name d.name ≡ true
   pub new : object_of objects d.name ≡ None
-  pub object : IsObject d
+  pub object : IsDeclared d
   pub said : IsSaid objects (items.Object d) (codes "object" ∷ ws)
 
 abbrev declared : List ℕ → Kind → ℕ → Declared

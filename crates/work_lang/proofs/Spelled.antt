@@ -9,7 +9,9 @@ use Rattle.work_lang.specs.Limits.{most_bytes}
 use Rattle.work_lang.specs.Workload.{Workload}
 use Rattle.work_lang.specs.Reading.{Fault, start, run, reading_of, Reads}
 use Rattle.work_lang.specs.Spelling.{IsSaid, Pairs, items_of, Spells}
-use Rattle.work_lang.specs.Laws.{ReadingIsSpelling, SpellsOne, FaultSpellsNone}
+use Rattle.work_lang.specs.Laws.{ReadingIsSpelling, SpellsOne, FaultSpellsNone, CanonicalIsRead, HasOneReading, EachTextHasOneReading}
+use Rattle.work_lang.specs.Canonical.{canonical_text}
+use Rattle.work_lang.proofs.CanonicalTexts.{canonical_spells}
 use Rattle.work_lang.proofs.Steps.{chosen}
 use Rattle.work_lang.proofs.Keeping.{start_kept}
 use Rattle.work_lang.proofs.Walks.{said_in, RunTakes, run_takes, run_again}
@@ -65,3 +67,13 @@ spells_one text w v s t = one_work w v (sym (reading_only text w s) ∙ reading_
 
 pub spells_none : FaultSpellsNone
 spells_none text w f e s = fault_ok (sym e ∙ reading_only text w s)
+
+pub one_reading : EachTextHasOneReading
+one_reading text = by (reading_of text) refl
+  where
+    by : (r : Result Workload Fault) → reading_of text ≡ r → HasOneReading text
+    by (Ok w) e = inl (w, e, reading_found text w e, λ v s. one_work v w (sym (reading_only text v s) ∙ e))
+    by (Err f) e = inr (f, e, λ w s. spells_none text w f e s)
+
+pub canonical_read : CanonicalIsRead
+canonical_read w ok short = reading_only (canonical_text w) w (canonical_spells w ok short)

@@ -12,4 +12,5 @@ pub mod Spelling
 pub mod Kept
 pub mod Index
 pub mod Print
+pub mod Canonical
 pub mod Laws

@@ -15,6 +15,10 @@ use Rattle.op_table.specs.declared.order.Order.{Order}
 use Rattle.op_table.specs.Value.{parsed_value}
 use Rattle.op_table.specs.Words.{kind_of_word, operation_of_word, has_operation}
 use Rattle.op_table.specs.Orders.{order_of_word, order_fits}
+use Rattle.target_desc.specs.declared.target.Target.{Target}
+use Rattle.target_desc.specs.declared.reading.TargetFault.{TargetFault}
+use Rattle.target_desc.specs.declared.reading.TargetFault.TheVariants as wrong
+use Rattle.target_desc.specs.Reading.{target_at}
 use Rattle.place_core.specs.declared.name.Declared.{Declared}
 use Rattle.place_core.specs.declared.script.Line.{Line}
 use Rattle.place_core.specs.Name.{name_of}
@@ -46,13 +50,25 @@ version_at w c = do
   _ ← end_at v.1
   Ok items.Version
 
--- so far there is one target; a line of more words is no name
-unfoldable pub target_at : List ℕ → Cursor → Result Item Slip
-target_at w c = do
+-- a fault of a target, as one of the line
+abbrev pub target_slip : TargetFault → Slip
+target_slip (wrong.Bad k) = record { word = k; cause = causes.BadTarget }
+target_slip (wrong.Missing k) = record { word = k; cause = causes.Missing }
+target_slip (wrong.Extra k) = record { word = k; cause = causes.Extra }
+
+abbrev pub target_or : Result Target TargetFault → Result Target Slip
+target_or (Ok t) = Ok t
+target_or (Err fault) = Err (target_slip fault)
+
+-- a target by its name or its description, which all further words are
+abbrev pub described_at : Cursor → Result Target Slip
+described_at c = target_or (target_at c)
+
+unfoldable pub target_line_at : List ℕ → Cursor → Result Item Slip
+target_line_at w c = do
   _ ← check_at c causes.UnknownWord (bytes_eq w (codes "target"))
-  n ← word_at c
-  _ ← check_at n.1 causes.BadTarget (at_end n.1 && bytes_eq n.0 (codes "full64"))
-  Ok items.Target
+  t ← described_at c
+  Ok (items.Target t)
 
 unfoldable pub object_at : List Declared → Cursor → Result Item Slip
 object_at objects c = do
@@ -158,14 +174,19 @@ call_at objects calls all w c = do
 
 pub record State : Type 0 where
   pub awaits : Awaits
+  pub target : Target
   pub objects : List Declared
   -- the threads that are closed
   pub threads : List (List Line)
   -- the lines of the thread that is open
   pub lines : List Line
 
+-- the target that stands until the line of the target was read
+abbrev pub unread_target : Target
+unread_target = record { word_bits = 64; packed = false; steps = record { swap = false; add = false; bits = false; order = false }; locks = 1; section = false }
+
 abbrev pub start : State
-start = record { awaits = awaits.Version; objects = []; threads = []; lines = [] }
+start = record { awaits = awaits.Version; target = unread_target; objects = []; threads = []; lines = [] }
 
 -- the calls of all threads so far
 abbrev pub all_calls : State → ℕ
@@ -191,7 +212,7 @@ in_thread_at s w c =
 
 abbrev pub awaited_at : Awaits → State → List ℕ → Cursor → Result Item Slip
 awaited_at awaits.Version s w c = version_at w c
-awaited_at awaits.Target s w c = target_at w c
+awaited_at awaits.Target s w c = target_line_at w c
 awaited_at awaits.Object s w c = first_thread_at s w c
 awaited_at awaits.Thread s w c = next_thread_at s w c
 awaited_at awaits.Call s w c = in_thread_at s w c
@@ -220,7 +241,7 @@ content_at s line = if list_all is_printable line then said_by s (words_of line)
 -- the state after an item
 abbrev pub next : State → Item → State
 next s items.Version = record s { awaits = awaits.Target }
-next s items.Target = record s { awaits = awaits.Object }
+next s (items.Target t) = record s { awaits = awaits.Object; target = t }
 next s (items.Object d) = record s { objects = s.objects ++ d ∷ [] }
 next s items.Thread = record s { awaits = awaits.Call }
 next s (items.Call l) = record s { lines = s.lines ++ l ∷ [] }
@@ -252,13 +273,17 @@ abbrev pub at_line : {A : Type 0} → ℕ → Result A Slip → Result A Fault
 at_line n (Ok x) = Ok x
 at_line n (Err s) = Err (record { line = n; word = s.word; cause = s.cause })
 
+-- the workload of the threads that are closed
+abbrev pub work_of : State → Workload
+work_of s = record { target = s.target; objects = s.objects; threads = s.threads }
+
 -- the end of a text of n lines
 abbrev pub ended : Awaits → State → ℕ → Result Workload Fault
 ended awaits.Version s n = Err (record { line = n; word = 0; cause = causes.Missing })
 ended awaits.Target s n = Err (record { line = n; word = 0; cause = causes.Missing })
 ended awaits.Call s n = Err (record { line = n; word = 0; cause = causes.Unclosed })
-ended awaits.Object s n = Ok (record { objects = s.objects; threads = s.threads })
-ended awaits.Thread s n = Ok (record { objects = s.objects; threads = s.threads })
+ended awaits.Object s n = Ok (work_of s)
+ended awaits.Thread s n = Ok (work_of s)
 
 -- the rest of a text after n lines that left s
 unfoldable pub run : State → ℕ → List (List ℕ) → Result Workload Fault

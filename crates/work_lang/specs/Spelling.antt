@@ -8,6 +8,7 @@ use Rattle.op_table.specs.declared.order.Order.{Order}
 use Rattle.op_table.specs.Value.{parsed_value}
 use Rattle.op_table.specs.Words.{kind_of_word, call_word}
 use Rattle.op_table.specs.Orders.{order_word}
+use Rattle.target_desc.specs.Spelling.{IsTargetText}
 use Rattle.place_core.specs.declared.name.Declared.{Declared}
 use Rattle.place_core.specs.declared.script.Line.{Line}
 use Rattle.work_lang.specs.declared.item.Item.{Item}
@@ -38,7 +39,7 @@ AreOrders orders ws = (ws ≡ map order_word orders) ⊎ ((are_seq_cst orders �
 -- the words of a line that says an item, where these objects stand
 abbrev pub IsSaid : List Declared → Item → List (List ℕ) → Type 0
 IsSaid objects items.Version ws = ws ≡ codes "work" ∷ codes "1" ∷ []
-IsSaid objects items.Target ws = ws ≡ codes "target" ∷ codes "full64" ∷ []
+IsSaid objects (items.Target t) ws = (words : List (List ℕ)) × IsTargetText words t × (ws ≡ codes "target" ∷ words)
 IsSaid objects (items.Object d) ws = (kind value : List ℕ) × (kind_of_word kind ≡ Some d.kind) × (parsed_value d.kind value ≡ Ok d.start) × (ws ≡ codes "object" ∷ d.name ∷ kind ∷ value ∷ [])
 IsSaid objects items.Thread ws = ws ≡ codes "thread" ∷ []
 IsSaid objects (items.Call l) ws = (d : Declared) × (slice_get objects l.object ≡ Some d) × (call orders : List (List ℕ)) × IsOperation d.kind l.call call × AreOrders (orders_of l) orders × (ws ≡ d.name ∷ (call ++ orders))
@@ -56,7 +57,7 @@ thread_items lines = items.Thread ∷ (map items.Call lines ++ items.End ∷ [])
 
 -- what the lines of a workload say, in order
 abbrev pub items_of : Workload → List Item
-items_of w = items.Version ∷ items.Target ∷ (map items.Object w.objects ++ flat_map thread_items w.threads)
+items_of w = items.Version ∷ items.Target w.target ∷ (map items.Object w.objects ++ flat_map thread_items w.threads)
 
 -- the bytes spell the workload: they are printable, and the lines that are not passed over say its items, in order
 pub record Spells (text : List ℕ) (w : Workload) : Type 0 where

@@ -1,37 +1,28 @@
--- Workloads: objects in declared order, and a script for each thread.
-use Rattle.std.specs.Prelude.{◌≡◌, ℕ, ◌<◌, ◌≤◌, true, List, [], ◌∷◌, ◌++◌, length, map, position, slice_get, Option, None, IsSomeAnd}
+-- Workloads: a target, objects in declared order, and a script for each thread.
+use Rattle.std.specs.Prelude.{◌≡◌, ℕ, ◌≤◌, true, List, [], ◌∷◌, ◌++◌, length, position, slice_get, Option, None, IsSomeAnd}
 use Rattle.std.specs.List.{sum_by, AllByRecursion}
 use Rattle.std.specs.Str.{bytes_eq}
-use Rattle.op_table.specs.Kind.{values_of, IsKind}
 use Rattle.op_table.specs.Call.{CallFits}
 use Rattle.op_table.specs.Orders.{order_fits}
+use Rattle.target_desc.specs.declared.target.Target.{Target}
+use Rattle.target_desc.specs.Target.{IsTarget}
 use Rattle.place_core.specs.declared.name.Declared.{Declared}
 use Rattle.place_core.specs.declared.script.Line.{Line}
+use Rattle.place_core.specs.DeclaredObjects.{IsDeclared}
 use Rattle.place_core.specs.Name.{is_name}
-use Rattle.place_core.specs.Cells.{Cell}
 use Rattle.work_lang.specs.Operands.{HasPosition}
 use Rattle.work_lang.specs.Limits.{most_objects, most_threads, most_calls, most_calls_in_all}
 
 pub record Workload : Type 0 where
+  pub target : Target
   pub objects : List Declared
   pub threads : List (List Line)
-
--- an object's kind and start
-abbrev pub cell_of : Declared → Cell
-cell_of d = record { kind = d.kind; start = d.start }
-
-abbrev pub cells_of : List Declared → List Cell
-cells_of objects = map cell_of objects
 
 -- the number of the object of that name
 abbrev pub object_of : List Declared → List ℕ → Option ℕ
 object_of objects w = position (λ d. bytes_eq d.name w) objects
 
 -- ---- what a workload keeps
-
--- the kind is one, and the start a value of it
-abbrev pub IsObject : Declared → Type 0
-IsObject d = IsKind d.kind × (d.start < values_of d.kind)
 
 -- each name is one, and no object before has it
 abbrev pub AreDeclared : List Declared → List Declared → Type 0
@@ -47,8 +38,9 @@ abbrev pub LineFits : List Declared → Line → Type 0
 LineFits objects line = IsSomeAnd (slice_get objects line.object) (HasLine line)
 
 pub record IsWork (w : Workload) : Type 0 where
+  pub target : IsTarget w.target
   pub names : AreDeclared [] w.objects
-  pub objects : AllByRecursion IsObject w.objects
+  pub objects : AllByRecursion IsDeclared w.objects
   pub lines : AllByRecursion (λ lines. AllByRecursion (LineFits w.objects) lines) w.threads
   pub few_objects : length w.objects ≤ most_objects
   pub few_threads : length w.threads ≤ most_threads

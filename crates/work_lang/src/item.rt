@@ -2,7 +2,7 @@
 
 ghost use Rattle.line_words.specs.Steps.{Gives, Steps};
 ghost use Rattle.op_table.specs.Kind.{IsKind};
-ghost use Rattle.work_lang.specs.Reading.{version_at, target_at, object_at, thread_at, operation_at, call_at};
+ghost use Rattle.work_lang.specs.Reading.{version_at, described_at, target_line_at, object_at, thread_at, operation_at, call_at};
 
 use crate::fault::{Cause, Slip};
 use crate::limits::{MOST_CALLS, MOST_CALLS_IN_ALL, MOST_OBJECTS, MOST_THREADS};
@@ -13,12 +13,13 @@ use crate::words::{check, end, need, value, word};
 use line_words::Words;
 use op_table::{Call, Kind, has_operation, kind_of_word, operation_of_word, read_value};
 use place_core::{Declared, Line, Name};
+use target_desc::{Target, TargetFault, target_at};
 
 /// What a line says.
 #[derive(Clone, Copy)]
 pub enum Item {
     Version,
-    Target,
+    Target(Target),
     Object(Declared),
     Thread,
     Call(Line),
@@ -49,19 +50,34 @@ pub fn version_item(first: &[u8], words: &mut Words<'_>) -> Result<Item, Slip>
     Ok(Item::Version)
 }
 
-/// The line of the target. A line of more words than two is no name.
-#[tactic(auto, unfolding(crate::specs::Reading::target_at))]
+/// A target by its name or its description, which all further words are.
+fn described(words: &Words<'_>) -> Result<Target, Slip>
+    ensures { Gives (λ x. x) result (described_at words.now) }
+{
+    match target_at(words) {
+        Ok(target) => Ok(target),
+        Err(TargetFault::Bad { word }) => Err(Slip {
+            word,
+            cause: Cause::BadTarget,
+        }),
+        Err(TargetFault::Missing { word }) => Err(Slip {
+            word,
+            cause: Cause::Missing,
+        }),
+        Err(TargetFault::Extra { word }) => Err(Slip {
+            word,
+            cause: Cause::Extra,
+        }),
+    }
+}
+
+/// The line of the target.
+#[tactic(auto, unfolding(crate::specs::Reading::target_line_at))]
 pub fn target_item(first: &[u8], words: &mut Words<'_>) -> Result<Item, Slip>
-    ensures { Gives (λ x. x) result (target_at first.now words.old) }
+    ensures { Gives (λ x. x) result (target_line_at first.now words.old) }
 {
     check(words, Cause::UnknownWord, first == b"target".as_slice())?;
-    let name = word(words)?;
-    check(
-        words,
-        Cause::BadTarget,
-        words.is_end() && name == b"full64".as_slice(),
-    )?;
-    Ok(Item::Target)
+    Ok(Item::Target(described(words)?))
 }
 
 /// An `object` line, after its first word.

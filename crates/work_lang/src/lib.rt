@@ -1,6 +1,7 @@
 //! The workload language: reading a workload from bytes, printing its calls, and where bytes come from and go to.
 #![tactic(auto)]
 
+mod canonical;
 mod fault;
 mod item;
 pub mod laws;
@@ -15,6 +16,7 @@ mod stream;
 mod words;
 mod work;
 
+pub use canonical::{print_work, write_target};
 pub use fault::{Cause, WorkFault};
 pub use memory::{MemSink, MemSource, SureSink, SureSource};
 pub use print::push_call;

@@ -2,7 +2,8 @@
 
 ghost use Rattle.std.specs.Prelude.{◌≡◌, ◌∷◌, ◌++◌, [], ◌<◌, ◌^◌, length, None, OnOk};
 ghost use Rattle.op_table.specs.Kind.{IsKind};
-ghost use Rattle.work_lang.specs.Workload.{object_of, IsObject};
+ghost use Rattle.place_core.specs.DeclaredObjects.{IsDeclared};
+ghost use Rattle.work_lang.specs.Workload.{object_of};
 ghost use Rattle.work_lang.specs.Reading.{kind_at};
 
 use op_table::{Class, Kind, NoMemory, Width};
@@ -23,14 +24,14 @@ impl Model for Objects {
     ghost use Rattle.std.specs.Prelude.{List};
     ghost use Rattle.std.specs.List.{AllByRecursion};
     ghost use Rattle.place_core.specs.declared.name.Declared.{Declared};
-    ghost use Rattle.work_lang.specs.Workload.{IsObject};
+    ghost use Rattle.place_core.specs.DeclaredObjects.{IsDeclared};
     ghost use Rattle.work_lang.specs.Index.{IsIndex};
 
     ghost Value = { List Declared };
 
     ghost view = { λ o. o.items.items };
 
-    ghost invariant = { λ o. IsIndex o.index o.items.items × AllByRecursion IsObject o.items.items };
+    ghost invariant = { λ o. IsIndex o.index o.items.items × AllByRecursion IsDeclared o.items.items };
 }
 
 impl Objects {
@@ -77,7 +78,7 @@ impl Objects {
     /// Adds an object of a new name.
     pub fn push(&mut self, object: Declared) -> Result<(), NoMemory>
         requires new { object_of self.old object.name ≡ None }
-        requires object { IsObject object }
+        requires object { IsDeclared object }
         requires few { length self.old < 2 ^ 32 }
         ensures { OnOk result (self.new ≡ self.old ++ object ∷ []) }
     {

@@ -15,16 +15,32 @@ use crate::objects::Objects;
 use crate::words::{end, fail};
 use crate::work::Work;
 use line_words::{Words, line_at};
-use op_table::NoMemory;
+use op_table::{NoMemory, StepSet};
 use place_core::Script;
 use std::alloc::{AllocFailed, Global};
 use std::marker::Model;
+use target_desc::Target;
+
+/// What stands for the target until its line was read.
+const UNREAD_TARGET: Target = Target {
+    word_bits: 64,
+    packed: false,
+    steps: StepSet {
+        swap: false,
+        add: false,
+        bits: false,
+        order: false,
+    },
+    locks: 1,
+    section: false,
+};
 
 /// What was read so far.
 #[derive(Drop)]
 struct Reader {
     alloc: Global,
     awaits: Awaits,
+    target: Target,
     objects: Objects,
     /// The threads that are closed.
     threads: Vec<Script>,
@@ -41,7 +57,7 @@ impl Model for Reader {
 
     ghost Value = { State };
 
-    ghost view = { λ r. record { awaits = r.awaits; objects = r.objects; threads = r.threads.items; lines = r.lines } };
+    ghost view = { λ r. record { awaits = r.awaits; target = r.target; objects = r.objects; threads = r.threads.items; lines = r.lines } };
 
     ghost invariant = { λ r. r.calls ≡ sum_by length r.threads.items + length r.lines };
 }
@@ -68,6 +84,7 @@ impl Reader {
         Reader {
             alloc,
             awaits: Awaits::Version,
+            target: UNREAD_TARGET,
             objects: Objects::new(alloc),
             threads: Vec::new(alloc),
             lines: Script::new(alloc),
@@ -160,7 +177,10 @@ impl Reader {
     {
         match item {
             Item::Version => self.awaits = Awaits::Target,
-            Item::Target => self.awaits = Awaits::Object,
+            Item::Target(target) => {
+                self.target = target;
+                self.awaits = Awaits::Object;
+            }
             Item::Object(object) => self.objects.push(object)?,
             Item::Thread => self.awaits = Awaits::Call,
             Item::Call(line) => {
@@ -204,6 +224,7 @@ impl Reader {
         let Reader {
             alloc: _,
             awaits,
+            target,
             objects,
             threads,
             lines: _,
@@ -220,7 +241,7 @@ impl Reader {
                 word: 0,
                 cause: Cause::Unclosed,
             }),
-            Awaits::Object | Awaits::Thread => Ok(Work::new(objects.into_items(), threads)),
+            Awaits::Object | Awaits::Thread => Ok(Work::new(target, objects.into_items(), threads)),
         }
     }
 }

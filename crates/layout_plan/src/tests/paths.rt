@@ -6,13 +6,6 @@ use super::*;
 use op_table::{Call, StepSet, call_fits};
 use place_core::{Path, WordOp};
 
-const NONE: StepSet = StepSet {
-    swap: false,
-    add: false,
-    bits: false,
-    order: false,
-};
-
 /// A call on an object has a path, by the shape and by its plans.
 fn has_path(
     rt: &impl Abort,
@@ -191,16 +184,51 @@ fn signed_order_is_no_step(rt: HostRuntime) -> Result<(), Fail> {
     Ok(())
 }
 
-/// A target that has one kind of steps makes these calls by them, and the others by a loop.
-fn has_steps(rt: &impl Abort, alloc: Global, steps: StepSet, made: [bool; 4]) -> Result<(), Fail> {
-    let target = Target {
-        word_bits: 32,
+/// The sixteen sets of steps: swap; add; and, or and xor; maximum and minimum.
+const SETS: [[bool; 4]; 16] = [
+    [false, false, false, false],
+    [false, false, false, true],
+    [false, false, true, false],
+    [false, false, true, true],
+    [false, true, false, false],
+    [false, true, false, true],
+    [false, true, true, false],
+    [false, true, true, true],
+    [true, false, false, false],
+    [true, false, false, true],
+    [true, false, true, false],
+    [true, false, true, true],
+    [true, true, false, false],
+    [true, true, false, true],
+    [true, true, true, false],
+    [true, true, true, true],
+];
+
+/// A packed target that makes these calls in one step.
+fn target_that_makes(word_bits: u32, made: [bool; 4]) -> Target {
+    Target {
+        word_bits,
         packed: true,
-        steps,
+        steps: StepSet {
+            swap: made[0],
+            add: made[1],
+            bits: made[2],
+            order: made[3],
+        },
         locks: 67,
         section: false,
-    };
-    let shape = laid_on(rt, alloc, &target, &[U32])?;
+    }
+}
+
+fn one_if(made: bool, op: WordOp) -> Path {
+    if made { Path::One(op) } else { Path::Loop }
+}
+
+/// A target that has one kind of steps makes the calls on a number by them, and the others by a loop; a number that
+/// is wider than a word is locked all the same.
+fn numbers_have_steps(rt: &impl Abort, alloc: Global, made: [bool; 4]) -> Result<(), Fail> {
+    let target = target_that_makes(32, made);
+    let shape = laid_on(rt, alloc, &target, &[U32, U64])?;
     for (call, op, one) in [
         (Call::Load, WordOp::Load, true),
         (Call::Store(5), WordOp::Store(0x0000000500000000), true),
@@ -241,49 +269,71 @@ fn has_steps(rt: &impl Abort, alloc: Global, steps: StepSet, made: [bool; 4]) ->
         ),
         (Call::Max(5), WordOp::Max(0x0000000500000000), made[3]),
         (Call::Min(5), WordOp::Min(0x0000000500000000), made[3]),
+        (Call::Nand(5), WordOp::Load, false),
+        (Call::Neg(true), WordOp::Load, false),
     ] {
-        has_path(
-            rt,
-            alloc,
-            &shape,
-            0,
-            call,
-            if one { Path::One(op) } else { Path::Loop },
-        )?;
+        has_path(rt, alloc, &shape, 0, call, one_if(one, op))?;
+        has_path(rt, alloc, &shape, 1, call, Path::Locked)?;
+    }
+    Ok(())
+}
+
+/// The same of a bool, which is one bit at the start of its word and so not at the top.
+fn bools_have_steps(rt: &impl Abort, alloc: Global, made: [bool; 4]) -> Result<(), Fail> {
+    let target = target_that_makes(32, made);
+    let shape = laid_on(rt, alloc, &target, &[BOOL])?;
+    for (call, op, one) in [
+        (Call::Load, WordOp::Load, true),
+        (Call::Store(1), WordOp::Store(0x0000000100000000), true),
+        (Call::Cas(0, 1), WordOp::Cas(0, 0x0000000100000000), true),
+        (
+            Call::CasWeak(1, 0),
+            WordOp::Cas(0x0000000100000000, 0),
+            true,
+        ),
+        (Call::Swap(1), WordOp::Swap(0x0000000100000000), made[0]),
+        (Call::And(0, true), WordOp::And(0xfffffffeffffffff), made[2]),
+        (Call::Or(1, false), WordOp::Or(0x0000000100000000), made[2]),
+        (Call::Xor(1, true), WordOp::Xor(0x0000000100000000), made[2]),
+        (Call::Not(false), WordOp::Xor(0x0000000100000000), made[2]),
+        (Call::Nand(1), WordOp::Load, false),
+    ] {
+        has_path(rt, alloc, &shape, 0, call, one_if(one, op))?;
+    }
+    Ok(())
+}
+
+/// The same of a pointer, which is a whole word.
+fn pointers_have_steps(rt: &impl Abort, alloc: Global, made: [bool; 4]) -> Result<(), Fail> {
+    let target = target_that_makes(64, made);
+    let shape = laid_on(rt, alloc, &target, &[PTR])?;
+    for (call, op, one) in [
+        (Call::Load, WordOp::Load, true),
+        (Call::Store(16), WordOp::Store(16), true),
+        (Call::Cas(16, 32), WordOp::Cas(16, 32), true),
+        (Call::CasWeak(16, 32), WordOp::Cas(16, 32), true),
+        (Call::Swap(16), WordOp::Swap(16), made[0]),
+        (Call::Add(16, false), WordOp::Add(16), made[1]),
+        (Call::Sub(16, false), WordOp::Sub(16), made[1]),
+        (Call::And(240, false), WordOp::And(240), made[2]),
+        (Call::Or(3, false), WordOp::Or(3), made[2]),
+        (Call::Xor(3, false), WordOp::Xor(3), made[2]),
+        (Call::BitSet(63), WordOp::Or(0x8000000000000000), made[2]),
+        (Call::BitClear(63), WordOp::And(0x7fffffffffffffff), made[2]),
+        (Call::BitToggle(64), WordOp::Xor(1), made[2]),
+    ] {
+        has_path(rt, alloc, &shape, 0, call, one_if(one, op))?;
     }
     Ok(())
 }
 
 #[test]
 fn steps_of_the_target_are_made(rt: HostRuntime) -> Result<(), Fail> {
-    has_steps(&rt, rt.alloc(), NONE, [false, false, false, false])?;
-    has_steps(
-        &rt,
-        rt.alloc(),
-        StepSet { swap: true, ..NONE },
-        [true, false, false, false],
-    )?;
-    has_steps(
-        &rt,
-        rt.alloc(),
-        StepSet { add: true, ..NONE },
-        [false, true, false, false],
-    )?;
-    has_steps(
-        &rt,
-        rt.alloc(),
-        StepSet { bits: true, ..NONE },
-        [false, false, true, false],
-    )?;
-    has_steps(
-        &rt,
-        rt.alloc(),
-        StepSet {
-            order: true,
-            ..NONE
-        },
-        [false, false, false, true],
-    )?;
+    for made in SETS {
+        numbers_have_steps(&rt, rt.alloc(), made)?;
+        bools_have_steps(&rt, rt.alloc(), made)?;
+        pointers_have_steps(&rt, rt.alloc(), made)?;
+    }
     Ok(())
 }
 

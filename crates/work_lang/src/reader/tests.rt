@@ -52,8 +52,38 @@ target => 2 Missing
 target full => 2 BadTarget
 target 64 => 2 BadTarget
 target full64 x => 2 BadTarget
-target 64 apart swap 1 none => 2 BadTarget";
+target word64 big => 2 BadTarget";
     assert_places(&rt, rt.alloc(), "work 1\n", 2, target)
+}
+
+#[test]
+fn descriptions_have_their_places(rt: HostRuntime) -> Result<(), Fail> {
+    let rows = "target 65 packed => 2 BadTarget
+target 064 packed none 1 locks => 2 BadTarget
+target 64 pack => 3 BadTarget
+target 64 packed => 4 Missing
+target 64 packed x => 4 BadTarget
+target 64 packed add+swap => 4 BadTarget
+target 64 packed swap+swap => 4 BadTarget
+target 64 packed none+add => 4 BadTarget
+target 64 packed swap+add => 5 Missing
+target 64 packed none 0 => 5 BadTarget
+target 64 packed none 68 locks => 5 BadTarget
+target 64 packed none 007 locks => 5 BadTarget
+target 64 packed none 1 => 6 Missing
+target 64 packed none 1 lock => 6 BadTarget
+target 64 packed none 1 section => 6 BadTarget
+target 32 apart none 2 section => 6 BadTarget
+target 32 apart add 1 section x => 6 BadTarget
+target 32 apart none 1 section x => 7 Extra
+target 64 packed none 67 locks big => 7 Extra
+target 64  packed   order 67 locks => 0 Unclosed";
+    let alloc = rt.alloc();
+    let (refused, read) = rows.rsplit_once("\n").ok_or("one row")?;
+    assert_places(&rt, alloc, "work 1\n", 2, refused)?;
+    let (line, _) = read.split_once(" => ").ok_or("a row without a place")?;
+    let before = format!(in alloc; "work 1\n{line}\nthread\n")?;
+    assert_places(&rt, alloc, &before, 3, " => 0 Unclosed")
 }
 
 #[test]

@@ -1,7 +1,7 @@
 use Rattle.std.proofs.Common.{◌+◌, ◌<◌, length, drop, ap, ◌∙◌, arith}
 use Rattle.place_core.specs.Runs.{loads_from}
 use Rattle.place_core.specs.Plain.{answers_to}
-use Rattle.work_lang.specs.Workload.{cells_of}
+use Rattle.place_core.specs.DeclaredObjects.{cells_of}
 use Rattle.place_core.proofs.PlainReplies.{loads_from-drop}
 use Rattle.portable.proofs.CellItems.{length-cells_of}
 use Rattle.portable.proofs.Answering.{moved_on}

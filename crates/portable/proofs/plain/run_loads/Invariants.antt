@@ -1,7 +1,7 @@
 use Rattle.std.proofs.Common.{◌≡◌, ◌+◌, ◌-◌, ◌≤◌, ◌++◌, length, drop}
 use Rattle.place_core.specs.Runs.{loads_from}
 use Rattle.place_core.specs.Plain.{answers_to}
-use Rattle.work_lang.specs.Workload.{cells_of}
+use Rattle.place_core.specs.DeclaredObjects.{cells_of}
 use Rattle.portable.specs.Fits.{ValuesFit}
 use Rattle.portable.proofs.plain.run_loads.Given as goal
 

@@ -1,6 +1,6 @@
 use Rattle.std.proofs.Common.{◌∙◌, sym, subst}
 use Rattle.std.specs.List.{AllByRecursion}
-use Rattle.work_lang.specs.Workload.{IsObject, cells_of}
+use Rattle.place_core.specs.DeclaredObjects.{IsDeclared, cells_of}
 use Rattle.portable.specs.Fits.{ValuesFit}
 use Rattle.portable.proofs.CellItems.{fit_starts}
 use Rattle.portable.proofs.Answering.{ran_with}
@@ -8,7 +8,7 @@ use Rattle.portable.proofs.plain.run_plain.Goals as goal
 
 pub run_from-requires-clause-values : goal.run_from-requires-clause-values
 run_from-requires-clause-values c =
-    let sound = subst (AllByRecursion IsObject) (sym c.objects-objects.ensures.value) c.objects-objects.ensures.kept.objects in
+    let sound = subst (AllByRecursion IsDeclared) (sym c.objects-objects.ensures.value) c.objects-objects.ensures.kept.objects in
     subst (ValuesFit (cells_of c.objects-objects.result.now)) (sym (c.deref_mut.ensures.value ∙ c.in_ok-values.ensures)) (fit_starts c.objects-objects.result.now sound)
 
 pub returns : goal.returns

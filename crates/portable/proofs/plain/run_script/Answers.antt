@@ -1,6 +1,6 @@
 use Rattle.std.proofs.Common.{◌+◌, drop, ap, sym, ◌∙◌, arith}
 use Rattle.place_core.specs.Plain.{answers_to, values_after, asked_by}
-use Rattle.work_lang.specs.Workload.{cells_of}
+use Rattle.place_core.specs.DeclaredObjects.{cells_of}
 use Rattle.place_core.proofs.PlainReplies.{answers_to-drop, values_after-drop}
 use Rattle.portable.proofs.Answering.{moved_on}
 use Rattle.portable.proofs.plain.run_script.Goals as goal

@@ -1,6 +1,6 @@
 use Rattle.std.proofs.Common.{◌≡◌, ◌+◌, ◌-◌, ◌≤◌, ◌++◌, length, drop}
 use Rattle.place_core.specs.Plain.{answers_to, values_after, asked_by}
-use Rattle.work_lang.specs.Workload.{cells_of}
+use Rattle.place_core.specs.DeclaredObjects.{cells_of}
 use Rattle.portable.specs.Fits.{ValuesFit}
 use Rattle.portable.proofs.plain.run_script.Given as goal
 

@@ -1,7 +1,8 @@
 use Rattle.std.proofs.Common.{◌≡◌, ◌++◌, length, map}
 use Rattle.std.specs.List.{AllByRecursion}
 use Rattle.place_core.specs.Plain.{thread_answers, end_values}
-use Rattle.work_lang.specs.Workload.{LineFits, cells_of}
+use Rattle.place_core.specs.DeclaredObjects.{cells_of}
+use Rattle.work_lang.specs.Workload.{LineFits}
 use Rattle.report_text.specs.Report.{items_of}
 use Rattle.portable.specs.Fits.{ValuesFit}
 use Rattle.portable.proofs.plain.run_threads.Given as goal

@@ -1,6 +1,6 @@
 use Rattle.std.proofs.Common.{◌≡◌, ◌++◌, length}
 use Rattle.place_core.specs.Plain.{starts_of}
-use Rattle.work_lang.specs.Workload.{cells_of}
+use Rattle.place_core.specs.DeclaredObjects.{cells_of}
 use Rattle.portable.proofs.plain.starts.Given as goal
 
 abbrev pub invariant-objects : goal.invariant-objects

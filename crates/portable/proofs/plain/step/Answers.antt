@@ -1,6 +1,6 @@
 use Rattle.std.proofs.Common.{get_or, set, ap, sym, ◌∙◌, subst}
 use Rattle.op_table.specs.Call.{after_of, answer_of}
-use Rattle.work_lang.specs.Workload.{cells_of}
+use Rattle.place_core.specs.DeclaredObjects.{cells_of}
 use Rattle.portable.specs.Fits.{ValuesFit}
 use Rattle.portable.proofs.CellItems.{step_facts}
 use Rattle.portable.proofs.plain.step.Goals as goal

@@ -1,5 +1,5 @@
 use Rattle.std.proofs.Common.{◌∙◌, arith}
-use Rattle.work_lang.specs.Workload.{IsObject}
+use Rattle.place_core.specs.DeclaredObjects.{IsDeclared}
 use Rattle.work_lang.proofs.Indexes.{index_more}
 use Rattle.work_lang.proofs.Lists.{all_push}
 use Rattle.work_lang.proofs.objects.Objects.push.Goals as goal
@@ -9,5 +9,5 @@ pub invariant_of-self-in-Ok-insert : goal.invariant_of-self-in-Ok-insert
 invariant_of-self-in-Ok-insert c =
     rw c.in-Ok-push.ensures.items (
       index_more c.self.inside.index c.insert.new.self c.self.inside.items.items c.args.object c.in-Ok.name c.len-number.result (omega (arith, c.len-number.ensures, c.self.inside.items.ok.0)) (c.in-Ok.ensures.items ∙ c.bytes.ensures.value) c.in-Ok-insert.ensures.updates (rw c.self.view_is c.requires.new) c.self.invariant.0,
-      all_push IsObject c.self.inside.items.items c.args.object c.self.invariant.1 c.requires.object,
+      all_push IsDeclared c.self.inside.items.items c.args.object c.self.invariant.1 c.requires.object,
     )

@@ -1,0 +1,4 @@
+mod PathClasses
+mod WordCalls
+mod TableSteps
+mod ShortLines

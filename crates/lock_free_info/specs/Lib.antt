@@ -1,0 +1,4 @@
+pub mod Classes
+pub mod Calls
+pub mod PlanTable
+pub mod Laws

@@ -1,0 +1,7 @@
+use Rattle.place_core.specs.declared.entry.Entry.{Entry}
+use Rattle.place_core.specs.Shapes.{word_of}
+use Rattle.place_core.proofs.ChangeCounts.{changes_none}
+use Rattle.place_core.proofs.laws.changes.no_entry_no_change.Goals as goal
+
+pub returns : goal.returns
+returns c = λ S w c. changes_none (λ (y : Entry). y.caller) (λ H. word_of S H w) c

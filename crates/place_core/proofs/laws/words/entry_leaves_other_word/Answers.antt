@@ -1,0 +1,5 @@
+use Rattle.place_core.proofs.WordEntries.{entry_leaves_other_word}
+use Rattle.place_core.proofs.laws.words.entry_leaves_other_word.Goals as goal
+
+pub returns : goal.returns
+returns c = entry_leaves_other_word
