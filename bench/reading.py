@@ -3,16 +3,16 @@
 and only the fault is written.
 
 Run it at the top of the repository after `rt run` has built crates/portable/out/portable. A text of 380,000 calls needs
-seven threads, and a second thread is refused so far: for it a copy of the repository whose limit of threads is 64 is
-built in a folder of its own, by `rt try`, which proves nothing, and only that row is taken from it. It prints, for each
-text, the median of five runs, megabytes per second and the peak memory, and adds a row to bench/reading.csv.
+seven threads, and a second thread is refused so far: for that row give the path of a program that was built from a copy
+of the repository in which the limit of threads is 64 (`most_threads` in crates/work_lang/specs/Limits.antt and
+`MOST_THREADS` in src/limits.rt). It prints, for each text, the median of five runs, the time of the processor, megabytes
+per second and the peak memory, and adds a row to bench/reading.csv.
 """
 import csv
 import datetime
 import os
 import platform
 import random
-import shutil
 import statistics
 import subprocess
 import sys
@@ -75,48 +75,44 @@ def timed(program: Path, text: Path) -> tuple:
     return seconds, usage.ru_utime + usage.ru_stime, usage.ru_maxrss / 1024
 
 
-def many_threads(folder: Path) -> Path:
-    """The program with a limit of 64 threads, built without proofs."""
-    copy = folder / "copy"
-    copy.mkdir()
-    shutil.copytree(TOP / "crates", copy / "crates", ignore=shutil.ignore_patterns("out"))
-    for name in ("crates.txt", "HANDLES"):
-        shutil.copy(TOP / name, copy / name)
-    limits = copy / "crates/work_lang/src/limits.rt"
-    limits.write_text(limits.read_text().replace("MOST_THREADS: usize = 1;", "MOST_THREADS: usize = 64;"))
-    crate = copy / "crates/portable"
-    subprocess.run(["rt", "try", "--", "targets"], cwd=crate, check=True, capture_output=True)
-    built = [path for path in (crate / "out").glob("portable*") if os.access(path, os.X_OK) and path.is_file()]
-    return max(built, key=lambda path: path.stat().st_mtime)
+TEXTS = {
+    "comments": comments,
+    "spaces": spaces,
+    "objects": objects,
+    "calls_65536": lambda: calls(1, 65_536, 106),
+    "calls_380000": lambda: calls(7, 54_286, 0),
+}
 
 
 def main() -> None:
+    if len(sys.argv) == 3 and sys.argv[1] == "make":
+        sys.stdout.write(TEXTS[sys.argv[2]]())
+        return
     if not PROGRAM.exists():
         sys.exit("build the program first: cd crates/portable && rt run -- run < ../../examples/first.work")
+    programs = {name: PROGRAM for name in TEXTS}
+    if len(sys.argv) > 1:
+        programs["calls_380000"] = Path(sys.argv[1])
+    else:
+        del programs["calls_380000"]
     with tempfile.TemporaryDirectory() as folder:
-        wide = many_threads(Path(folder))
-        texts = [
-            ("comments", PROGRAM, comments()),
-            ("spaces", PROGRAM, spaces()),
-            ("objects", PROGRAM, objects()),
-            ("calls_65536", PROGRAM, calls(1, 65_536, 106)),
-            ("calls_380000", wide, calls(7, 54_286, 0)),
-        ]
-        for name, program, text in texts:
+        for name, program in programs.items():
             path = Path(folder) / f"{name}.work"
-            path.write_text(text)
+            # a process of its own makes the text: the peak of a child is never below what its parent holds
+            with path.open("wb") as made:
+                subprocess.run([sys.executable, __file__, "make", name], stdout=made, check=True)
             runs = [timed(program, path) for _ in range(5)]
             seconds = statistics.median(run[0] for run in runs)
             used = statistics.median(run[1] for run in runs)
-            megabytes = len(text) / 1e6
+            size = path.stat().st_size
             row = [
                 datetime.date.today().isoformat(),
                 platform.processor() or platform.machine(),
                 name,
-                len(text),
+                size,
                 f"{seconds * 1000:.1f}",
                 f"{used * 1000:.1f}",
-                f"{megabytes / seconds:.0f}",
+                f"{size / 1e6 / seconds:.0f}",
                 f"{max(run[2] for run in runs):.1f}",
             ]
             print(f"{name}: {row[4]} ms, {row[5]} ms of processor, {row[6]} MB/s, {row[7]} MB")

@@ -3,7 +3,7 @@
 
 Run it at the top of the repository after `rt run` has built crates/portable/out/portable. It prints, for each
 workload, the median of five runs, the peak memory and the ratio to the peer, checks that both write the same bytes,
-and adds a row to bench/results.csv.
+times `check` and `plan` on the last of them, and adds a row to bench/results.csv.
 """
 import csv
 import datetime
@@ -21,6 +21,8 @@ TOP = Path(__file__).resolve().parent.parent
 PROGRAM = TOP / "crates/portable/out/portable"
 # name, calls, objects, seed, and what else the maker of texts is told
 WORKLOADS = [("one_thread", 65_536, 1_024, 1, []), ("mixed_calls", 65_536, 1_024, 2, ["mixed"])]
+# commands that have no peer, on the last of these texts
+DESCRIBED = ["check", "plan"]
 
 
 def timed(command: list, text: Path) -> tuple:
@@ -40,6 +42,11 @@ def timed(command: list, text: Path) -> tuple:
 def median(command: list, text: Path) -> tuple:
     runs = [timed(command, text) for _ in range(5)]
     return statistics.median(run[0] for run in runs), max(run[1] for run in runs), runs[0][2]
+
+
+def keep(row: list) -> None:
+    with (TOP / "bench/results.csv").open("a", newline="") as results:
+        csv.writer(results).writerow(row)
 
 
 def main() -> None:
@@ -68,8 +75,22 @@ def main() -> None:
                 f"{memory:.1f}",
             ]
             print(f"{name}: {row[5]} ms, peer {row[6]} ms, ratio {row[7]}, {row[8]} MB")
-            with (TOP / "bench/results.csv").open("a", newline="") as results:
-                csv.writer(results).writerow(row)
+            keep(row)
+        for command in DESCRIBED:
+            ours, memory, told = median([PROGRAM, command], text)
+            row = [
+                datetime.date.today().isoformat(),
+                platform.processor() or platform.machine(),
+                f"{command}_{name}",
+                text.stat().st_size,
+                hashlib.sha256(told).hexdigest()[:16],
+                f"{ours * 1000:.1f}",
+                "",
+                "",
+                f"{memory:.1f}",
+            ]
+            print(f"{row[2]}: {row[5]} ms, {row[8]} MB, {len(told)} bytes written")
+            keep(row)
 
 
 main()

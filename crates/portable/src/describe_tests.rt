@@ -236,6 +236,44 @@ fn each_form_refuses(rt: HostRuntime) -> Result<(), Fail> {
     Ok(())
 }
 
+/// Each form that reads tells nothing where a read fails.
+#[test]
+fn each_form_needs_its_text(rt: HostRuntime) -> Result<(), Fail> {
+    let alloc = rt.alloc();
+    for line in [
+        "run",
+        "check",
+        "plan",
+        "run --target cas32",
+        "plan --target cas32",
+    ] {
+        let words = words_of(alloc, line)?;
+        let mut source = MemSource::of(alloc, WIDE.as_bytes(), 10, &[2])?;
+        let mut sink = MemSink::of(alloc, 131072, 4096, &[])?;
+        let status = portable_call(alloc, &words, &mut source, &mut sink).status;
+        assert_eq!(rt; status, Status::ReadFault, "{line}");
+        assert!(rt; sink.bytes().is_empty(), "{line}");
+    }
+    Ok(())
+}
+
+/// Each form keeps its first line where its second write fails.
+#[test]
+fn each_form_stops_where_a_write_fails(rt: HostRuntime) -> Result<(), Fail> {
+    for (line, first) in [
+        ("run", "target cas32\n"),
+        ("run --target full64", "target full64\n"),
+        ("check", "work 1\n"),
+        ("plan", "target cas32\n"),
+        ("plan --target word32", "target word32\n"),
+    ] {
+        let ended = called(rt.alloc(), line, WIDE, &[2])?;
+        assert_eq!(rt; ended.status, Status::WriteFault, "{line}");
+        assert_eq!(rt; ended.text.as_str(), first, "{line}");
+    }
+    Ok(())
+}
+
 #[test]
 fn describing_runs_nothing(rt: HostRuntime) -> Result<(), Fail> {
     let alloc = rt.alloc();

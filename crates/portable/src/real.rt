@@ -1,7 +1,7 @@
 //! Readers and writers of std as a source and a sink: the edge that is trusted.
 
-ghost use Rattle.std.specs.Prelude.{◌≡◌, None, OnOk};
-ghost use Rattle.work_lang.specs.Faults.{Rose};
+ghost use Rattle.std.specs.Prelude.{◌≡◌, None, OnOk, IfOk};
+ghost use Rattle.work_lang.specs.Faults.{Rose, HasCause};
 
 use op_table::NoMemory;
 use std::alloc::Global;
@@ -16,8 +16,10 @@ pub struct ReadSource<R: Read + Drop> {
 }
 
 impl<R: Read + Drop> ReadSource<R> {
-    /// A source over the reader; no read has failed.
-    pub fn new(reader: R) -> Self {
+    /// A source over the reader; no read has failed, and the count of faults is 0.
+    pub fn new(reader: R) -> Self
+        ensures { result.faults ≡ 0 }
+    {
         ReadSource { reader, faults: 0 }
     }
 }
@@ -50,20 +52,25 @@ pub struct WriteSink<W: Write + Drop> {
 }
 
 impl<W: Write + Drop> WriteSink<W> {
-    /// A sink over the writer; no write has failed.
-    pub fn new(alloc: Global, writer: W) -> Result<Self, NoMemory> {
+    /// A sink over the writer; no write has failed, and the count of faults is 0.
+    pub fn new(alloc: Global, writer: W) -> Result<Self, NoMemory>
+        ensures { IfOk result (λ s. s.faults ≡ 0) }
+    {
         match BufWriter::with_capacity(alloc, BUFFER_SIZE, writer) {
             Ok(writer) => Ok(WriteSink { writer, faults: 0 }),
             Err(_) => Err(NoMemory),
         }
     }
 
-    /// Hands on what the buffer holds.
-    pub fn flush(&mut self) -> Result<(), Failed> {
+    /// Hands on what the buffer holds. Failed comes only where the count of faults rises.
+    pub fn flush(&mut self) -> Result<(), Failed>
+        ensures { HasCause self.old.faults self.new.faults result }
+    {
+        let failed = self.faults.saturating_add(1);
         match self.writer.flush() {
             Ok(()) => Ok(()),
             Err(_) => {
-                self.faults = self.faults.saturating_add(1);
+                self.faults = failed;
                 Err(Failed)
             }
         }

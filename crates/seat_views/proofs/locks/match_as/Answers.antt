@@ -1,0 +1,6 @@
+use Rattle.seat_views.proofs.Ties.{tie}
+use Rattle.seat_views.proofs.LockTies.{match_given}
+use Rattle.seat_views.proofs.locks.match_as.Goals as goal
+
+pub load-requires : goal.load-requires
+load-requires g c = match_given _ _ _ _ _ (tie _ _ _ _ _ c.arena.view_is c.arena.invariant.0 c.arena.invariant.1 c.arena.invariant.2 c.requires.arena) _ _ _ _ _ _ _ _ c.requires.object g.J.Asking.ask _ _ c.requires.asked c.requires.pass c.requires.glance c.requires.value c.requires.stamp
