@@ -9,7 +9,7 @@ use Rattle.seat_views.specs.declared.view.Flight.{Flight}
 use Rattle.seat_views.specs.declared.view.Flight.TheVariants.{Idle, Hold, Glance}
 use Rattle.seat_views.specs.Places.{parts_of}
 use Rattle.seat_views.specs.PartLists.{got, HasAll}
-use Rattle.seat_views.specs.LockSteps.{parts_now, HoldsClean, HoldsRead, MayRelease, GlancesAt, GlancesRead}
+use Rattle.seat_views.specs.LockSteps.{object_in, parts_now, HoldsClean, HoldsRead, MayRelease, GlancesAt, GlancesRead}
 
 -- a hold that has written nothing
 pub record CleanHold (o : ℕ) (f : Flight) : Type 0 where
@@ -22,6 +22,12 @@ pub clean_hold : (o : ℕ) (f : Flight) → HoldsClean o f → CleanHold o f
 clean_hold o Idle h = absurd h
 clean_hold o (Glance p stamp read) h = absurd h
 clean_hold o (Hold p stamp read wrote now) h = record { stamp = stamp; read = read; now = now; is = λ i. Hold (h.0 i) stamp read (h.1 i) now }
+
+-- it is at the object
+pub clean_object : (o : ℕ) (f : Flight) → HoldsClean o f → object_in f ≡ o
+clean_object o Idle h = absurd h
+clean_object o (Glance p stamp read) h = absurd h
+clean_object o (Hold p stamp read wrote now) h = h.0
 
 -- a hold that has read all parts
 pub record ReadHold (o n : ℕ) (f : Flight) : Type 0 where

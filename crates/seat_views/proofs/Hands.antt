@@ -15,7 +15,7 @@ use Rattle.seat_views.specs.declared.view.Flight.{Flight}
 use Rattle.seat_views.specs.declared.view.Flight.TheVariants.{Idle, Hold, Glance}
 use Rattle.seat_views.specs.Places.{parts_of}
 use Rattle.seat_views.specs.PartLists.{look_up, got, HasAll}
-use Rattle.seat_views.specs.LockSteps.{last_stamp, taken_flight, stamped_flight, read_more, write_more, read_in, stamp_in, released, stored_by, value_read, HandReads, HandFits, HoldsClean, HoldsRead, MayRelease, GlancesAt, GlancesRead}
+use Rattle.seat_views.specs.LockSteps.{last_stamp, taken_flight, stamped_flight, read_more, write_more, read_in, stamp_in, released, stored_by, value_read, HandReads, HandFits, HoldsClean, HoldsRead, MayRelease, GlancesAt, GlancesRead, IsGlance}
 use Rattle.seat_views.proofs.ShapePlaces.{count_is}
 
 -- a hand with nothing read
@@ -107,3 +107,9 @@ module _ (S : Shape) (o l f n b : ℕ) (place : place_of S o ≡ Some (Parts l f
 
   pub match_value : GlancesRead o (parts_of S o) fl → HandFits S.word_bits fl h → v ≡ value_read S o fl
   match_value held fits = let e = ends_glance S o fl h held fits in by_shape ∙ e.value
+
+-- the stamp of a glance
+pub glance_stamp : (bits : ℕ) (f : Flight) (h : Hand) → IsGlance f → HandFits bits f h → h.stamp ≡ stamp_in f
+glance_stamp bits Idle h glance fits = absurd glance
+glance_stamp bits (Hold o stamp read wrote now) h glance fits = absurd glance
+glance_stamp bits (Glance o stamp read) h glance fits = fits.stamp_is

@@ -1,7 +1,8 @@
 -- The steps of a hold keep the rule: the lock is taken, parts are read and written, the lock is given up.
-use Rattle.std.proofs.Common.{inl, ◌≡◌, ◌≢◌, ⊎_elim, ℕ, ◌≤◌, ◌<◌, ◌+◌, ◌%◌, ◌^◌, Bool, true, false, if◌then◌else◌, List, [], ◌∷◌, ◌++◌, length, set, get_or, refl, ap, sym, ◌∙◌, subst, arith, Some, None, length-set, get_or-set_other, get_or-set_same, eq-eqb, ne_eqb}
+use Rattle.std.proofs.Common.{inl, ◌≡◌, ◌≢◌, ⊎_elim, ℕ, ◌≤◌, ◌<◌, ◌+◌, ◌*◌, ◌/◌, ◌%◌, ◌^◌, Bool, true, false, if◌then◌else◌, List, [], ◌∷◌, ◌++◌, length, set, get_or, refl, ap, sym, ◌∙◌, subst, arith, Some, None, length-set, get_or-set_other, get_or-set_same, eq-eqb, ne_eqb}
 use Rattle.std.specs.Prelude.{slice_index}
 use Rattle.std.proofs.lemmas.List.{set-get_or}
+use Rattle.std.proofs.Math.Nat.{mod-le, div-le_self}
 use mathlib.Core.Option.{some}
 use mathlib.Core.Logic.{dite}
 use native.Mathlib.Decide.{ℕ_discrete}
@@ -34,7 +35,7 @@ use Rattle.seat_views.specs.Places.{value_after, IsLegalIn}
 use Rattle.seat_views.specs.PartLists.{got, HasAll}
 use Rattle.seat_views.specs.Rule.{Lock, shown, part_in, Fits, HoldFits, KnowsHold, KnowsGlance, HoldsUnder, IsHolder, ArenaHolds}
 use Rattle.seat_views.specs.Steps.{Asked, entry, item, grown, moved, Grows}
-use Rattle.seat_views.specs.LockSteps.{read_more, parts_now, write_more, released, take_tells, read_tells, put_tells}
+use Rattle.seat_views.specs.LockSteps.{object_in, read_more, parts_now, write_more, released, take_tells, held_tells, put_tells}
 use Rattle.seat_views.proofs.ShapePlaces.{lane_within, lane_apart, parts_apart, parts_within, parts_hold, one_place, lawful}
 use Rattle.seat_views.proofs.Frames.{SameInParts, all_same, flights_of, flights_set, parts_frame, glances_frame, lanes_frame, hold_frame, glance_frame, holder_set}
 use Rattle.seat_views.proofs.Histories.{pass_known, shape_is, history_adds, history_moved, sound_set}
@@ -135,9 +136,19 @@ take_keeps k ok a l f n b place slots id m rest s r _ at _ =
       (refl, ap (λ (c : Bool). moved v it (if c then Idle else fl)) (sym (ne_eqb q 1 not_held)), λ _. even),
     ))
 
+never : false ≡ true → ⊥
+never e = cc
+
+-- a part is no greater than the value
+part_of_small : (bits i x v top : ℕ) → x ≡ part_of bits i v → v < top → x < top
+part_of_small bits i x v top is small =
+    let low : v / 2 ^ (bits * i) % 2 ^ bits ≤ v / 2 ^ (bits * i) = mod-le (v / 2 ^ (bits * i)) (2 ^ bits) in
+    let part : v / 2 ^ (bits * i) ≤ v = div-le_self v (2 ^ (bits * i)) in
+    omega arith
+
 -- a part is read under the lock
 pub held_keeps : (k : Opening) → IsShape k.shape → (a : Asked) (o l f n b : ℕ) → place_of k.shape o ≡ Some (In l f n b) → a.part < n → (st : ℕ) (read now : List (ℕ × ℕ)) (slots id : ℕ) (m : Me (Unit {0}) View) → m.0.role ≡ role.Pass
-    → m.0.flight ≡ Hold o st read false now → Allows (ArenaHolds k) slots id m (data_word (f + a.part)) (λ x. x) (read_tells kind.Held a (data_word (f + a.part)) m)
+    → m.0.flight ≡ Hold o st read false now → Allows (ArenaHolds k) slots id m (data_word (f + a.part)) (λ x. x) (held_tells a (data_word (f + a.part)) m)
 held_keeps k ok a o l f n b place inside st read now slots id m pass is s r _ at _ =
     let S : Shape = k.shape in
     let v : View = m.0 in
@@ -149,6 +160,9 @@ held_keeps k ok a o l f n b place inside st read now slots id m pass is s r _ at
     let h : HoldFits S r.log r.locks s.words id o st read false now = subst (KnowsHold S r.log r.locks s.words id) is (old.holds id v at) in
     let e = one_place S o l f n b h.lock h.first h.count h.bits place h.place in
     let shaped : v.shape ≡ S = shape_is S r.log r.count r.owner s.views r.history id v at pass in
+    let legal : IsLegalIn S r.log = (let q = r.history in let p = q.passes in p.legal) in
+    let clean : (r.locks l).dirty ≡ false = ap (λ (z : ℕ). (r.locks z).dirty) e.lock ∙ ap (λ (z : Lock). z.dirty) h.mine in
+    let spelled : x ≡ part_of b i (value_after S r.log o) = old.spelled o l f n b place (λ dirty. absurd (never (sym clean ∙ dirty))) i inside in
     let bits = (parts_within S ok o l f n b place).2 in (
       moved v it fl,
       keeps,
@@ -164,7 +178,12 @@ held_keeps k ok a o l f n b place inside st read now slots id m pass is s r _ at
             reads = λ clean. fits_more s.words h.first h.count read i x (h.reads clean) (ap (λ (z : ℕ). part_in s.words z i) (sym e.first));
             writes = λ bad. absurd (cc (bad));
           } tt (λ j u. subst (HoldsUnder S j) is u) (data_word (f + i)),
-      (refl, ap (λ (z : Flight). moved v it (read_more z i x)) (sym is), subst (λ (z : ℕ). x < 2 ^ z) (bits ∙ ap (λ (T : Shape). T.word_bits) (sym shaped)) (old.small o l f n b i place inside)),
+      (
+        refl,
+        ap (λ (z : Flight). moved v it (read_more z i x)) (sym is),
+        subst (λ (z : ℕ). x < 2 ^ z) (bits ∙ ap (λ (T : Shape). T.word_bits) (sym shaped)) (old.small o l f n b i place inside),
+        subst (λ (z : Shape × Flight). x < values_of (kind_of z.0 (object_in z.1))) (λ j. (sym shaped j, sym is j)) (part_of_small b i x (value_after S r.log o) (values_of (kind_of S o)) spelled (value_fits S ok r.log legal o)),
+      ),
     )
 
 -- what a hold knows, of the object's lock and parts as they are given

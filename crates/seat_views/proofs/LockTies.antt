@@ -18,7 +18,7 @@ use Rattle.seat_views.specs.Places.{parts_of}
 use Rattle.seat_views.specs.PartLists.{got, HasAll}
 use Rattle.seat_views.specs.States.{ArenaState}
 use Rattle.seat_views.specs.Steps.{Asked, asked_object, asked_part, asked_value, asked_match}
-use Rattle.seat_views.specs.LockSteps.{parts_now, released, stored_by, stamp_in, value_read, HoldsClean, HoldsRead, MayRelease, GlancesAt, GlancesRead, take_tells, read_tells, put_tells, release_tells, stamp_tells, match_tells}
+use Rattle.seat_views.specs.LockSteps.{parts_now, released, stored_by, stamp_in, value_read, HoldsClean, HoldsRead, MayRelease, GlancesAt, GlancesRead, take_tells, held_tells, read_tells, put_tells, release_tells, stamp_tells, match_tells}
 use Rattle.seat_views.proofs.ShapePlaces.{parts_within, count_is}
 use Rattle.seat_views.proofs.HoldSteps.{take_keeps, held_keeps, put_keeps, release_keeps}
 use Rattle.seat_views.proofs.GlanceSteps.{stamp_keeps, part_keeps, match_keeps}
@@ -39,10 +39,10 @@ module _ (id : TableId) (key k : Opening) (now : ArenaState) (z : TableId) (t : 
   take_given a ask rest = subst (λ (x : Asked). Asks id key z slots seat m (lock_word k.shape l) (λ _. 1) (take_tells x (lock_word k.shape l) m)) (sym ask)
       (asks id key k now z t slots seat m (lock_word k.shape l) (λ _. 1) (take_tells (asked_object o) (lock_word k.shape l) m) lock_in_range (take_keeps k t.ok (asked_object o) l f n b at slots seat m rest))
 
-  pub held_given : (a : Asked) (i : ℕ) → a ≡ asked_part i → i < n → m.0.role ≡ role.Pass → HoldsClean o m.0.flight → Asks id key z slots seat m (data_word (f + i)) (λ x. x) (read_tells kind.Held a (data_word (f + i)) m)
+  pub held_given : (a : Asked) (i : ℕ) → a ≡ asked_part i → i < n → m.0.role ≡ role.Pass → HoldsClean o m.0.flight → Asks id key z slots seat m (data_word (f + i)) (λ x. x) (held_tells a (data_word (f + i)) m)
   held_given a i ask inside pass held = let h = clean_hold o m.0.flight held in
-      subst (λ (x : Asked). Asks id key z slots seat m (data_word (f + i)) (λ y. y) (read_tells kind.Held x (data_word (f + i)) m)) (sym ask)
-      (asks id key k now z t slots seat m (data_word (f + i)) (λ x. x) (read_tells kind.Held (asked_part i) (data_word (f + i)) m) (part_in_range i inside)
+      subst (λ (x : Asked). Asks id key z slots seat m (data_word (f + i)) (λ y. y) (held_tells x (data_word (f + i)) m)) (sym ask)
+      (asks id key k now z t slots seat m (data_word (f + i)) (λ x. x) (held_tells (asked_part i) (data_word (f + i)) m) (part_in_range i inside)
       (held_keeps k t.ok (asked_part i) o l f n b at inside h.stamp h.read h.now slots seat m pass h.is))
 
   pub put_given : (a : Asked) (i x : ℕ) → a ≡ asked_part i → i < n → x < 2 ^ now.shape.word_bits → HoldsRead o n m.0.flight → Asks id key z slots seat m (data_word (f + i)) (λ _. x) (λ _. put_tells a (data_word (f + i)) m x)

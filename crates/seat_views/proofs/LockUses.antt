@@ -157,7 +157,7 @@ module _ (a : ArenaState) (o : ℕ) (two : HasTwoParts a.shape o) where
 
 -- ---- a glance at any number of parts
 
-known_more : (n m : ℕ) (read : List (ℕ × ℕ)) → HasAll n read → HasAll (n + 1) ((n, m) ∷ read)
+pub known_more : (n m : ℕ) (read : List (ℕ × ℕ)) → HasAll n read → HasAll (n + 1) ((n, m) ∷ read)
 known_more n m read all i lt = dite (ℕ_discrete i n)
     (λ e. ap (λ (b : Bool). if b then Some m else look_up i read) (eq-eqb i n e) ∙ sym (ap (λ (b : Bool). Some (or_zero (if b then Some m else look_up i read))) (eq-eqb i n e)))
     (λ ne. ap (λ (b : Bool). if b then Some m else look_up i read) (ne_eqb i n ne) ∙ (all i (omega arith) ∙ sym (ap (λ (b : Bool). Some (or_zero (if b then Some m else look_up i read))) (ne_eqb i n ne))))

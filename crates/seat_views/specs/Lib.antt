@@ -18,3 +18,4 @@ pub mod CallTests
 pub mod Paths
 pub mod PathLaws
 pub mod StepCounts
+pub mod Makes

@@ -4,6 +4,7 @@ use Rattle.op_table.specs.declared.call.Call.{Call}
 use Rattle.op_table.specs.declared.call.Call.TheVariants.{Load}
 use Rattle.op_table.specs.declared.call.Reply.{Reply}
 use Rattle.op_table.specs.declared.call.Reply.TheVariants.{Value}
+use Rattle.op_table.specs.Kind.{values_of}
 use Rattle.op_table.specs.Call.{answer_of}
 use Rattle.place_core.specs.declared.shape.Shape.{Shape}
 use Rattle.place_core.specs.Shapes.{kind_of}
@@ -21,9 +22,10 @@ pub record TakesLock (S : Shape) (o : ℕ) (p : PassState) (won : Bool) (q : Pas
   pub even : found ≢ 1 → found % 2 ≡ 0
   pub moved : Moved p (item (word_of_lock S o) kind.Take found) (taken_flight o found) q
 
--- part i was read under the lock, a number of a part's bits
+-- part i was read under the lock, a number of a part's bits, and no greater than a value of the kind
 pub record ReadsHeld (S : Shape) (o i : ℕ) (p : PassState) (n : ℕ) (q : PassState) : Type 0 where
   pub small : n < 2 ^ S.word_bits
+  pub of_kind : n < values_of (kind_of S o)
   pub moved : Moved p (item (word_of_part S o i) kind.Held n) (read_more p.flight i n) q
 
 -- part i was written

@@ -56,6 +56,12 @@ read_in Idle = []
 read_in (Hold o stamp read wrote now) = read
 read_in (Glance o stamp read) = read
 
+-- the object that is held or glanced at
+abbrev pub object_in : Flight → ℕ
+object_in Idle = 0
+object_in (Hold o stamp read wrote now) = o
+object_in (Glance o stamp read) = o
+
 abbrev pub stamp_in : Flight → ℕ
 stamp_in Idle = 0
 stamp_in (Hold o stamp read wrote now) = stamp
@@ -126,6 +132,11 @@ take_tells a word m n w = (w.1 ≡ m.1) × (w.0 ≡ moved m.0 (item word kind.Ta
 abbrev pub read_tells : StepKind → Asked → ℕ → Me (Unit {0}) View → ℕ → Me (Unit {0}) View → Type 0
 read_tells k a word m n w = (w.1 ≡ m.1) × (w.0 ≡ moved m.0 (item word k n) (read_more m.0.flight a.part n)) × (n < 2 ^ m.0.shape.word_bits)
 
+-- under the lock it is a part of a value of the kind, and so no greater than one
+abbrev pub held_tells : Asked → ℕ → Me (Unit {0}) View → ℕ → Me (Unit {0}) View → Type 0
+held_tells a word m n w = (w.1 ≡ m.1) × (w.0 ≡ moved m.0 (item word kind.Held n) (read_more m.0.flight a.part n)) × (n < 2 ^ m.0.shape.word_bits)
+    × (n < values_of (kind_of m.0.shape (object_in m.0.flight)))
+
 abbrev pub put_tells : Asked → ℕ → Me (Unit {0}) View → ℕ → Me (Unit {0}) View → Type 0
 put_tells a word m n w = (w.1 ≡ m.1) × (w.0 ≡ moved m.0 (item word kind.Put n) (write_more m.0.flight a.part n))
 
@@ -144,7 +155,7 @@ abbrev pub take_told : Asked → Told
 take_told a st m n w = take_tells a st.word m n w
 
 abbrev pub held_told : Asked → Told
-held_told a st m n w = read_tells kind.Held a st.word m n w
+held_told a st m n w = held_tells a st.word m n w
 
 abbrev pub put_told : Asked → Told
 put_told a st m n w = put_tells a st.word m n w

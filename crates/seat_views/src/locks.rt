@@ -10,7 +10,7 @@ ghost use Rattle.seat_views.specs.declared.view.StepKind.TheVariants as kind;
 ghost use Rattle.seat_views.specs.declared.view.Flight.TheVariants.{Idle};
 ghost use Rattle.seat_views.specs.Places.{HasParts};
 ghost use Rattle.seat_views.specs.Steps.{asked_object, asked_part, asked_value, asked_match};
-ghost use Rattle.seat_views.specs.LockSteps.{stored_by, stamp_in, value_read};
+ghost use Rattle.seat_views.specs.LockSteps.{object_in, stored_by, stamp_in, value_read};
 ghost use Rattle.seat_views.specs.LockSteps.{HoldsClean, HoldsRead, MayRelease, GlancesAt, GlancesRead};
 ghost use Rattle.seat_views.specs.Spots.{IsCell, TakesThere, ReadsThere, PutsThere};
 ghost use Rattle.seat_views.specs.Spots.{ReleasesThere, StampsThere, MatchesThere, MissesThere};
@@ -113,6 +113,7 @@ pub(crate) fn held_as<J: Asking>(
     ensures same { (seat.new.table_id ≡ seat.old.table_id) × (seat.new.me.1 ≡ seat.old.me.1) }
     ensures read { ReadsThere kind.Held cell part seat.old.me.0 result seat.new.me.0 }
     ensures small { result < 2 ^ seat.old.me.0.shape.word_bits }
+    ensures of_kind { result < values_of (kind_of seat.old.me.0.shape (object_in seat.old.me.0.flight)) }
 {
     let word = 1 + (cell.first as usize + part as usize);
     arena.table.shared.load::<Held<J>>(seat, word)

@@ -9,7 +9,8 @@ ghost use Rattle.seat_views.specs.declared.view.Flight.TheVariants.{Idle};
 ghost use Rattle.seat_views.specs.declared.view.Beside.TheVariants.{Nobody};
 ghost use Rattle.seat_views.specs.Places.{lane_at, HasParts, parts_of};
 ghost use Rattle.seat_views.specs.Steps.{IsSoundView};
-ghost use Rattle.seat_views.specs.LockSteps.{HoldsClean, HoldsRead, MayRelease, GlancesAt, GlancesRead, IsGlance};
+ghost use Rattle.seat_views.specs.LockSteps.{HoldsClean, HoldsRead, MayRelease};
+ghost use Rattle.seat_views.specs.LockSteps.{GlancesAt, GlancesRead, IsGlance, stamp_in};
 ghost use Rattle.seat_views.specs.States.{state_of, IsOf, IsNoteOf, IsKept};
 ghost use Rattle.seat_views.specs.States.{Gives, GivesNone, TakesBack, Notes, Meets, Drops};
 ghost use Rattle.seat_views.specs.Tries.{OpMade, LookMade, LookSaw, TryMade, TrySaw};
@@ -288,6 +289,14 @@ impl Pass {
         let found = part_as::<Brand>(arena, &mut self.seat, object, cell, part);
         self.hand.read[part as usize] = found;
         found
+    }
+
+    /// The stamp at which the glance began.
+    pub fn glance_stamp(&self) -> u64
+        requires glance { IsGlance self.now.flight }
+        ensures value { result ≡ stamp_in self.now.flight }
+    {
+        self.hand.stamp
     }
 
     /// Loads the lock again, which ends the glance. Ok with the value where the stamp stands: that makes a load. Else

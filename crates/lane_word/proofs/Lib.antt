@@ -1,0 +1,2 @@
+pub mod LanePieces
+pub mod LaneSteps

@@ -1,0 +1,150 @@
+-- A call under the lock, from its pieces: the takes, the parts read, the parts stored, and the release.
+use Rattle.std.proofs.Common.{◌≡◌, ℕ, ◌==◌, Bool, true, false, if◌then◌else◌, List, [], ◌∷◌, ◌++◌, Some, None, refl, ap, sym, ◌∙◌, subst, append_assoc, eq-eqb}
+use Rattle.std.specs.Prelude.{◌&&◌, not}
+use Rattle.std.proofs.lemmas.List.{append-nil}
+use Rattle.op_table.specs.declared.kind.Kind.{Kind}
+use Rattle.op_table.specs.declared.call.Call.{Call}
+use Rattle.op_table.specs.declared.call.Call.TheVariants.{Load, Store, Swap, Cas, CasWeak, Add, Sub, And, Nand, Or, Xor, Max, Min, Not, Neg, BitSet, BitClear, BitToggle}
+use Rattle.op_table.specs.declared.call.Reply.{Reply}
+use Rattle.op_table.specs.declared.call.Reply.TheVariants as reply
+use Rattle.op_table.specs.Call.{after_of, answer_of}
+use Rattle.place_core.specs.declared.shape.Shape.{Shape}
+use Rattle.place_core.specs.Shapes.{kind_of}
+use Rattle.place_core.specs.PartValues.{AreParts}
+use Rattle.place_core.proofs.PartSums.{joined_has_its_parts}
+use Rattle.seat_views.specs.declared.view.StepKind.{StepKind}
+use Rattle.seat_views.specs.declared.view.StepKind.TheVariants as step
+use Rattle.seat_views.specs.declared.view.Item.{Item}
+use Rattle.seat_views.specs.declared.view.Flight.{Flight}
+use Rattle.seat_views.specs.declared.view.Flight.TheVariants.{Idle, Hold}
+use Rattle.seat_views.specs.Places.{parts_of, word_of_lock}
+use Rattle.seat_views.specs.PartLists.{got}
+use Rattle.seat_views.specs.Steps.{item, entry}
+use Rattle.seat_views.specs.LockSteps.{released, stored_by, value_read, HoldsClean, HoldsRead, MayRelease}
+use Rattle.seat_views.specs.CallTests.{has_failed, does_write}
+use Rattle.seat_views.specs.Paths.{eat_just, eat_locked}
+use Rattle.seat_views.specs.States.{PassState, Appends}
+use Rattle.seat_views.specs.LockStates.{Releases}
+use Rattle.seat_views.specs.Makes.{MakesEntry}
+use Rattle.seat_views.proofs.PathPieces.{locked_joined}
+use Rattle.seq_lock.specs.Holds.{Steps, first_word, with_read, with_put, Took, ReadsAll, PutsAll, MakesLocked, HoldsWritten}
+use Rattle.seq_lock.proofs.Trails.{numbered, steps_then, steps_flight}
+
+just : (k : StepKind) (w n m : ℕ) → n ≡ m → eat_just k w m (item w k n ∷ []) ≡ Some []
+just k w n m e = λ t. if numbered k w w n refl t && eq-eqb n m e t then Some [] else None
+
+-- steps that end with the call's entry
+pub entry_made : (p q z : PassState) (T : List Item) (f : Flight) (o : ℕ) (call : Call) (r : Reply) (i : Item) → Steps p T f q → Appends q (entry q.number o call r) i z → MakesEntry o call p r (T ++ i ∷ []) z
+entry_made p q z T f o call r i s h = record {
+  between = h.between;
+  seen = h.seen ∙ (λ t. (let u : PassState = s t in (u.seen ++ h.between) ++ entry u.number o call r ∷ []));
+  rest = h.rest ∙ ((λ t. (let u : PassState = s t in record u { seen = z.seen; mine = u.mine ++ entry u.number o call r ∷ []; trail = u.trail ++ i ∷ []; flight = Idle }))
+      ∙ ap (λ (l : List Item). record p { seen = z.seen; mine = p.mine ++ entry p.number o call r ∷ []; trail = l; flight = Idle }) (append_assoc p.trail T (i ∷ [])));
+  kept = h.kept;
+}
+
+-- ---- a call that writes nothing leaves the value
+
+loud : (q : Bool) (v : ℕ) → not (has_failed (if q then reply.Unit else reply.Value v)) ≡ true
+loud true v = refl
+loud false v = refl
+
+never : true ≡ false → ⊥
+never e = cc
+
+pub stays : (k : Kind) (call : Call) (v : ℕ) → does_write call (answer_of k call v) ≡ false → after_of k call v ≡ v
+stays k Load v e = refl
+stays k (Store a) v e = absurd (never e)
+stays k (Swap a) v e = absurd (never e)
+stays k (Cas x n) v e = go (v == x) e
+  where
+    go : (b : Bool) → not (has_failed (if b then reply.Done v else reply.Failed v)) ≡ false → (if b then n else v) ≡ v
+    go true e = absurd (never e)
+    go false e = refl
+stays k (CasWeak x n) v e = go (v == x) e
+  where
+    go : (b : Bool) → not (has_failed (if b then reply.Done v else reply.Failed v)) ≡ false → (if b then n else v) ≡ v
+    go true e = absurd (never e)
+    go false e = refl
+stays k (Add a q) v e = absurd (never (sym (loud q v) ∙ e))
+stays k (Sub a q) v e = absurd (never (sym (loud q v) ∙ e))
+stays k (And a q) v e = absurd (never (sym (loud q v) ∙ e))
+stays k (Nand a) v e = absurd (never e)
+stays k (Or a q) v e = absurd (never (sym (loud q v) ∙ e))
+stays k (Xor a q) v e = absurd (never (sym (loud q v) ∙ e))
+stays k (Max a) v e = absurd (never e)
+stays k (Min a) v e = absurd (never e)
+stays k (Not q) v e = absurd (never (sym (loud q v) ∙ e))
+stays k (Neg q) v e = absurd (never (sym (loud q v) ∙ e))
+stays k (BitSet p) v e = absurd (never e)
+stays k (BitClear p) v e = absurd (never e)
+stays k (BitToggle p) v e = absurd (never e)
+
+-- ---- the pieces
+
+-- a lock that was just taken has nothing written under it
+pub took_clean : (S : Shape) (o : ℕ) (p q : PassState) → Took S o p q → HoldsClean o q.flight
+took_clean S o p q t = subst (HoldsClean o) (sym (steps_flight p q t.steps (Hold o t.stamp [] false []) t.state)) (refl, refl)
+
+module _ (S : Shape) (o : ℕ) (call : Call) (p q1 : PassState) (v : ℕ) (q2 : PassState) (t : Took S o p q1) (a : ReadsAll S o q1 v q2) where
+  held_flight : q2.flight ≡ Hold o t.stamp a.read false []
+  held_flight = steps_flight q1 q2 a.steps (with_read q1.flight a.read) a.state ∙ ap (λ (f : Flight). with_read f a.read) (steps_flight p q1 t.steps (Hold o t.stamp [] false []) t.state)
+
+  pub held_read : HoldsRead o (parts_of S o) q2.flight
+  held_read = subst (HoldsRead o (parts_of S o)) (sym held_flight) (refl, a.known)
+
+  pub held_clean : HoldsClean o q2.flight
+  held_clean = subst (HoldsClean o) (sym held_flight) (refl, refl)
+
+  held_steps : Steps p (t.steps ++ a.steps) (with_read q1.flight a.read) q2
+  held_steps = steps_then p q1 q2 t.steps a.steps (Hold o t.stamp [] false []) (with_read q1.flight a.read) t.state a.state
+
+  pub may_leave : does_write call (answer_of (kind_of S o) call v) ≡ false → MayRelease S o call q2.flight
+  may_leave quiet = subst (MayRelease S o call) (sym held_flight) (
+    refl,
+    a.known,
+    subst (AreParts S.word_bits (parts_of S o) (got a.read)) (sym a.value_is ∙ (sym (stays (kind_of S o) call v quiet) ∙ ap (after_of (kind_of S o) call) a.value_is)) (joined_has_its_parts S.word_bits (parts_of S o) (got a.read) a.small),
+  )
+
+  pub left_made : (r : Reply) (z : PassState) → does_write call (answer_of (kind_of S o) call v) ≡ false → Releases S o call q2 r z → MakesLocked S o call p r z
+  left_made r z quiet h =
+      let i : Item = item (word_of_lock S o) step.Release (stored_by q2.flight) in
+      let replied : r ≡ answer_of (kind_of S o) call v = h.reply ∙ ap (answer_of (kind_of S o) call) (ap (value_read S o) held_flight ∙ sym a.value_is) in record {
+        steps = (t.steps ++ a.steps) ++ i ∷ [];
+        made = entry_made p q2 z (t.steps ++ a.steps) (with_read q1.flight a.read) o call r i held_steps h.appends;
+        eaten = (λ k. eat_locked (word_of_lock S o) (first_word S o) (parts_of S o) ((ap (does_write call) replied ∙ quiet) k) (sym (append-nil (t.steps ++ a.steps)) k ++ i ∷ []))
+            ∙ locked_joined (word_of_lock S o) (first_word S o) (parts_of S o) false t.stamp t.steps a.steps [] (i ∷ []) t.eaten a.eaten refl
+            (just step.Release (word_of_lock S o) (stored_by q2.flight) t.stamp (ap stored_by held_flight));
+        value = v;
+        fits = a.fits;
+        reply = replied;
+      }
+
+  module _ (new : ℕ) (q3 : PassState) (b : PutsAll S o q2 new q3) where
+    put_flight : q3.flight ≡ Hold o t.stamp a.read true b.now
+    put_flight = steps_flight q2 q3 b.steps (with_put q2.flight true b.now) b.state ∙ ap (λ (f : Flight). with_put f true b.now) held_flight
+
+    pub put_wrote : HoldsWritten o q3.flight
+    put_wrote = subst (HoldsWritten o) (sym put_flight) (refl, refl)
+
+    pub may_write : new ≡ after_of (kind_of S o) call v → MayRelease S o call q3.flight
+    may_write is = subst (MayRelease S o call) (sym put_flight) (
+      refl,
+      a.known,
+      subst (AreParts S.word_bits (parts_of S o) (got b.now)) (is ∙ ap (after_of (kind_of S o) call) a.value_is) b.are,
+    )
+
+    pub put_made : (r : Reply) (z : PassState) → does_write call (answer_of (kind_of S o) call v) ≡ true → Releases S o call q3 r z → MakesLocked S o call p r z
+    put_made r z writes h =
+        let i : Item = item (word_of_lock S o) step.Release (stored_by q3.flight) in
+        let replied : r ≡ answer_of (kind_of S o) call v = h.reply ∙ ap (answer_of (kind_of S o) call) (ap (value_read S o) put_flight ∙ sym a.value_is) in record {
+          steps = ((t.steps ++ a.steps) ++ b.steps) ++ i ∷ [];
+          made = entry_made p q3 z ((t.steps ++ a.steps) ++ b.steps) (with_put q2.flight true b.now) o call r i
+              (steps_then p q2 q3 (t.steps ++ a.steps) b.steps (with_read q1.flight a.read) (with_put q2.flight true b.now) held_steps b.state) h.appends;
+          eaten = (λ k. eat_locked (word_of_lock S o) (first_word S o) (parts_of S o) ((ap (does_write call) replied ∙ writes) k) (((t.steps ++ a.steps) ++ b.steps) ++ i ∷ []))
+              ∙ locked_joined (word_of_lock S o) (first_word S o) (parts_of S o) true t.stamp t.steps a.steps b.steps (i ∷ []) t.eaten a.eaten b.eaten
+              (just step.Release (word_of_lock S o) (stored_by q3.flight) (released true t.stamp) (ap stored_by put_flight));
+          value = v;
+          fits = a.fits;
+          reply = replied;
+        }

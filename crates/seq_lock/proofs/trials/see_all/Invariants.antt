@@ -1,0 +1,5 @@
+use Rattle.seat_views.specs.Trials.{SeesParts}
+use Rattle.seq_lock.proofs.trials.see_all.Given as goal
+
+abbrev pub invariant-loop-part : goal.invariant-loop-part
+invariant-loop-part l = SeesParts l.arena 0 l.part l.pass

@@ -1,0 +1,12 @@
+//! Calls on objects with parts: a load looks without the lock first, and every other call takes the lock.
+#![tactic(auto)]
+
+mod cell;
+mod look;
+#[cfg(test)]
+mod tests;
+#[cfg(test)]
+mod trials;
+
+pub use cell::call;
+pub use look::glance;
