@@ -2,26 +2,21 @@
 """Times reading alone: `portable run` on texts of about 8 MB that have a fault in their last line, so that all is read
 and only the fault is written.
 
-Run it at the top of the repository after `rt run` has built crates/portable/out/portable. A text of 380,000 calls needs
-seven threads, and a second thread is refused so far: for that row give the path of a program that was built from a copy
-of the repository in which the limit of threads is 64 (`most_threads` in crates/work_lang/specs/Limits.antt and
-`MOST_THREADS` in src/limits.rt). It prints, for each text, the median of five runs, the time of the processor, megabytes
-per second and the peak memory, and adds a row to bench/reading.csv.
+Run it at the top of the repository after `rt run` has built crates/portable/out/portable. It prints, for each text, the
+median of the runs, the time of the processor, megabytes per second and the peak memory, and adds a row to
+bench/reading.csv.
 """
-import csv
 import datetime
-import os
-import platform
 import random
-import statistics
-import subprocess
 import sys
 import tempfile
-import time
 from pathlib import Path
 
-TOP = Path(__file__).resolve().parent.parent
-PROGRAM = TOP / "crates/portable/out/portable"
+import measure
+
+PROGRAM = measure.TOP / "crates/portable/out/portable"
+HOW = "cd crates/portable && rt run -- run < ../../examples/first.work"
+COLUMNS = "date,commit,processor,text,bytes,ms,cpu_ms,mb_per_s,peak_mb"
 HEAD = "work 1\ntarget full64\n"
 MOST = 8_388_608
 
@@ -62,19 +57,6 @@ def calls(threads: int, each: int, spare: int) -> str:
     return HEAD + declared + "".join(lines) + "x\n"
 
 
-def timed(program: Path, text: Path) -> tuple:
-    with text.open("rb") as given:
-        begin = time.perf_counter()
-        child = subprocess.Popen([program, "run"], stdin=given, stdout=subprocess.PIPE)
-        told = child.stdout.read()
-        _, status, usage = os.wait4(child.pid, 0)
-        seconds = time.perf_counter() - begin
-    child.returncode = os.waitstatus_to_exitcode(status)
-    if child.returncode != 1 or not told.endswith(b"word 1 UnknownWord\n"):
-        sys.exit(f"{text.name}: status {child.returncode}, {told[:60]}")
-    return seconds, usage.ru_utime + usage.ru_stime, usage.ru_maxrss / 1024
-
-
 TEXTS = {
     "comments": comments,
     "spaces": spaces,
@@ -84,45 +66,31 @@ TEXTS = {
 }
 
 
+def timed(launcher: Path, text: Path) -> measure.Run:
+    one = measure.run(launcher, [PROGRAM, "run"], text)
+    if one.status != 1 or not one.written.endswith(b"word 1 UnknownWord\n"):
+        sys.exit(f"{text.name}: status {one.status}, {one.written[:60]}")
+    return one
+
+
 def main() -> None:
-    if len(sys.argv) == 3 and sys.argv[1] == "make":
-        sys.stdout.write(TEXTS[sys.argv[2]]())
-        return
-    if not PROGRAM.exists():
-        sys.exit("build the program first: cd crates/portable && rt run -- run < ../../examples/first.work")
-    programs = {name: PROGRAM for name in TEXTS}
-    if len(sys.argv) > 1:
-        programs["calls_380000"] = Path(sys.argv[1])
-    else:
-        del programs["calls_380000"]
+    measure.need(PROGRAM, HOW)
     with tempfile.TemporaryDirectory() as folder:
-        for name, program in programs.items():
+        launcher = measure.build_launcher(Path(folder))
+        for name, make in TEXTS.items():
             path = Path(folder) / f"{name}.work"
-            # a process of its own makes the text: the peak of a child is never below what its parent holds
-            with path.open("wb") as made:
-                subprocess.run([sys.executable, __file__, "make", name], stdout=made, check=True)
-            runs = [timed(program, path) for _ in range(5)]
-            seconds = statistics.median(run[0] for run in runs)
-            used = statistics.median(run[1] for run in runs)
-            size = path.stat().st_size
-            row = [
-                datetime.date.today().isoformat(),
-                platform.processor() or platform.machine(),
-                name,
-                size,
-                f"{seconds * 1000:.1f}",
-                f"{used * 1000:.1f}",
-                f"{size / 1e6 / seconds:.0f}",
-                f"{max(run[2] for run in runs):.1f}",
+            path.write_text(make())
+            runs = [timed(launcher, path) for _ in range(measure.RUNS)]
+            wall, size = measure.median(runs, "wall"), path.stat().st_size
+            head = [datetime.date.today().isoformat(), measure.commit(), measure.processor(), name, size]
+            row = head + [
+                f"{wall:.1f}",
+                f"{measure.median(runs, 'cpu'):.1f}",
+                f"{size / 1000 / wall:.0f}",
+                f"{max(one.peak for one in runs):.1f}",
             ]
-            print(f"{name}: {row[4]} ms, {row[5]} ms of processor, {row[6]} MB/s, {row[7]} MB")
-            results = TOP / "bench/reading.csv"
-            fresh = not results.exists()
-            with results.open("a", newline="") as rows:
-                writer = csv.writer(rows)
-                if fresh:
-                    writer.writerow("date,machine,text,bytes,ms,cpu_ms,mb_per_s,peak_mb".split(","))
-                writer.writerow(row)
+            print(f"{name}: {row[5]} ms, {row[6]} ms of processor, {row[7]} MB/s, {row[8]} MB")
+            measure.keep("reading.csv", COLUMNS, row)
 
 
 main()

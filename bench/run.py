@@ -1,96 +1,75 @@
 #!/usr/bin/env python3
-"""Times the proved program, and a plain Rust program beside it, on fixed workloads.
+"""Times the proved program, and a plain Rust program beside it, on fixed workloads: run.py [--program PATH] [NAME ..]
 
-Run it at the top of the repository after `rt run` has built crates/portable/out/portable. It prints, for each
-workload, the median of five runs, the peak memory and the ratio to the peer, checks that both write the same bytes,
-times `check` and `plan` on the last of them, and adds a row to bench/results.csv.
+Run it at the top of the repository after `rt run` has built crates/portable/out/portable. It prints a line for each
+workload, or for those named, and adds a row to bench/results.csv; of another program it only prints. It stops where a
+program fails, or where both write what must be equal and isn't.
 """
-import csv
-import datetime
+import argparse
 import hashlib
-import os
-import platform
-import statistics
-import subprocess
+import re
 import sys
 import tempfile
-import time
 from pathlib import Path
 
-TOP = Path(__file__).resolve().parent.parent
-PROGRAM = TOP / "crates/portable/out/portable"
-# name, calls, objects, seed, and what else the maker of texts is told
-WORKLOADS = [("one_thread", 65_536, 1_024, 1, []), ("mixed_calls", 65_536, 1_024, 2, ["mixed"])]
-# commands that have no peer, on the last of these texts
-DESCRIBED = ["check", "plan"]
+import make_text
+import measure
+
+PROGRAM = measure.TOP / "crates/portable/out/portable"
+HOW = "cd crates/portable && rt run -- run < ../../examples/first.work"
 
 
-def timed(command: list, text: Path) -> tuple:
-    """Seconds, peak memory in MB and the bytes written of one run."""
-    with text.open("rb") as given:
-        begin = time.perf_counter()
-        child = subprocess.Popen(command, stdin=given, stdout=subprocess.PIPE)
-        written = child.stdout.read()
-        _, status, usage = os.wait4(child.pid, 0)
-        seconds = time.perf_counter() - begin
-    child.returncode = os.waitstatus_to_exitcode(status)
-    if child.returncode != 0:
-        sys.exit(f"{command} ended with status {child.returncode}")
-    return seconds, usage.ru_maxrss / 1024, written
+def whole(report: bytes) -> bytes:
+    return report
 
 
-def median(command: list, text: Path) -> tuple:
-    runs = [timed(command, text) for _ in range(5)]
-    return statistics.median(run[0] for run in runs), max(run[1] for run in runs), runs[0][2]
+def last(report: bytes) -> bytes:
+    """The last values."""
+    return report.rpartition(b"\nlast\n")[2]
 
 
-def keep(row: list) -> None:
-    with (TOP / "bench/results.csv").open("a", newline="") as results:
-        csv.writer(results).writerow(row)
+def calls(report: bytes) -> bytes:
+    """The calls, and the names of the last values, without what was found."""
+    found = rb"(?m)( =|^[a-z][a-z0-9_]*) [^\n =]*( [^\n =]*)?$"
+    return re.sub(found, rb"\1", report)
+
+
+# what of a report is a function of the workload
+SAME = {"full": calls, "u128_additions": last, "u8_additions": last}
+
+
+def side_by_side(launcher: Path, peer: Path, program: Path, name: str, text: Path) -> tuple:
+    """The runs of both programs, in turns. Whatever must be equal is compared at each run; the calls, which take long to
+    take out of a report, at the first alone."""
+    same = SAME.get(name, whole)
+    ours, theirs = [], []
+    for number in range(measure.RUNS):
+        one, other = measure.done(launcher, [program, "run"], text), measure.done(launcher, [peer], text)
+        if (number == 0 or same is not calls) and same(one.written) != same(other.written):
+            sys.exit(f"{name}: the reports differ")
+        ours.append(one._replace(written=b""))
+        theirs.append(other._replace(written=b""))
+    return ours, theirs
 
 
 def main() -> None:
-    if not PROGRAM.exists():
-        sys.exit("build the program first: cd crates/portable && rt run -- run < ../../examples/first.work")
+    words = argparse.ArgumentParser()
+    words.add_argument("--program", type=Path, default=PROGRAM)
+    words.add_argument("names", nargs="*", metavar="NAME")
+    given = words.parse_args()
+    measure.need(given.program, HOW)
     with tempfile.TemporaryDirectory() as folder:
-        peer = Path(folder) / "peer"
-        subprocess.run(["rustc", "--edition", "2021", "-O", "-o", peer, TOP / "bench/peer.rs"], check=True)
-        for name, calls, objects, seed, more in WORKLOADS:
+        launcher = measure.build_launcher(Path(folder))
+        peer = measure.build_peer(Path(folder), "peer.rs")
+        for name in given.names or make_text.WORKLOADS:
+            made = make_text.text(name)
             text = Path(folder) / f"{name}.work"
-            made = [sys.executable, TOP / "bench/make_text.py", str(calls), str(objects), str(seed), *more]
-            text.write_bytes(subprocess.run(made, check=True, capture_output=True).stdout)
-            ours, memory, report = median([PROGRAM, "run"], text)
-            theirs, _, expected = median([peer], text)
-            if report != expected:
-                sys.exit(f"{name}: the reports differ")
-            row = [
-                datetime.date.today().isoformat(),
-                platform.processor() or platform.machine(),
-                name,
-                text.stat().st_size,
-                hashlib.sha256(report).hexdigest()[:16],
-                f"{ours * 1000:.1f}",
-                f"{theirs * 1000:.1f}",
-                f"{ours / theirs:.2f}",
-                f"{memory:.1f}",
-            ]
-            print(f"{name}: {row[5]} ms, peer {row[6]} ms, ratio {row[7]}, {row[8]} MB")
-            keep(row)
-        for command in DESCRIBED:
-            ours, memory, told = median([PROGRAM, command], text)
-            row = [
-                datetime.date.today().isoformat(),
-                platform.processor() or platform.machine(),
-                f"{command}_{name}",
-                text.stat().st_size,
-                hashlib.sha256(told).hexdigest()[:16],
-                f"{ours * 1000:.1f}",
-                "",
-                "",
-                f"{memory:.1f}",
-            ]
-            print(f"{row[2]}: {row[5]} ms, {row[8]} MB, {len(told)} bytes written")
-            keep(row)
+            text.write_bytes(made)
+            ours, theirs = side_by_side(launcher, peer, given.program, name, text)
+            text.unlink()
+            row = measure.compared(name, len(made), hashlib.sha256(made).hexdigest()[:16], ours, theirs)
+            if given.program == PROGRAM:
+                measure.keep("results.csv", measure.COLUMNS, row)
 
 
 main()

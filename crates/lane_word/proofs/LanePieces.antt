@@ -14,7 +14,6 @@ use Rattle.place_core.specs.declared.shape.Shape.{Shape}
 use Rattle.place_core.specs.Cells.{entries_by}
 use Rattle.place_core.specs.Shapes.{place_of, kind_of, data_word}
 use Rattle.place_core.specs.Operations.{plan_of, path_at}
-use Rattle.place_core.proofs.EntryLists.{made_by-append, made_by-own}
 use Rattle.layout_plan.specs.Laws.{HasLane}
 use Rattle.seat_views.specs.declared.view.StepKind.{StepKind}
 use Rattle.seat_views.specs.declared.view.Item.{Item}
@@ -26,7 +25,9 @@ use Rattle.seat_views.specs.Items.{kind_code, is_numbered}
 use Rattle.seat_views.specs.CallTests.{is_load}
 use Rattle.seat_views.specs.Paths.{eat_one_step, eat_turns, eat_loop, eat_by, IsPath}
 use Rattle.seat_views.specs.Makes.{MakesEntry}
+use Rattle.seat_views.proofs.Making.{none_made, none_between, others_make_all}
 use Rattle.lane_word.specs.LaneCalls.{MakesNone}
+use Rattle.lane_word.specs.LaneLaws.{NoneIsMade}
 
 -- ---- paths
 
@@ -78,23 +79,6 @@ no_load S o (BitToggle p) lane plan = refl
 
 -- ---- steps one after another
 
-nothing_more : {A : Type 0} (xs ys : List A) → xs ++ ys ≡ xs → ys ≡ []
-nothing_more [] ys e = e
-nothing_more (x ∷ xs) ys e = nothing_more xs ys (cc (e))
-
-last_out : {A : Type 0} (xs ys : List A) (x : A) → xs ++ x ∷ [] ≡ ys ++ x ∷ [] → xs ≡ ys
-last_out [] [] x e = refl
-last_out [] (y ∷ []) x e = absurd (cc (e))
-last_out [] (y ∷ z ∷ ys) x e = absurd (cc (e))
-last_out (y ∷ []) [] x e = absurd (cc (e))
-last_out (y ∷ z ∷ xs) [] x e = absurd (cc (e))
-last_out (a ∷ xs) (b ∷ ys) x e = let heads : a ≡ b = cc (e) in let rest : xs ++ x ∷ [] ≡ ys ++ x ∷ [] = cc (e) in let more = last_out xs ys x rest in cc (heads, more)
-
--- a caller whose entries stay has made none
-none_made : (seen between mine : List Entry) (c : ℕ) → entries_by seen c ≡ mine → entries_by (seen ++ between) c ≡ mine → entries_by between c ≡ []
-none_made seen between mine c was is =
-    nothing_more (entries_by seen c) (entries_by between c) (sym (made_by-append (λ (x : Entry). x.caller) seen between c) ∙ (is ∙ sym was))
-
 -- between two steps of a pass without an entry lies no entry of its own
 pub none_before_step : (q z : PassState) (i : Item) (word n : ℕ) → IsKept q → (h : Looked q i word n z) → entries_by h.between q.number ≡ []
 none_before_step q z i word n kept h =
@@ -107,13 +91,7 @@ none_before_step q z i word n kept h =
 -- nor before the entry of its next step
 pub none_before_entry : (q z : PassState) (x : Entry) (i : Item) (word n : ℕ) → x.caller ≡ q.number → IsKept q → (h : AppendsAt q x i word n z) → entries_by h.between q.number ≡ []
 none_before_entry q z x i word n is kept h =
-    let last = h.kept in
-    let number : z.number ≡ q.number = ap (λ (s : PassState). s.number) h.rest in
-    let own : entries_by z.seen z.number ≡ z.mine = last.own in
-    let all : entries_by (q.seen ++ h.between) q.number ++ x ∷ [] ≡ q.mine ++ x ∷ [] =
-    sym (made_by-own (λ (y : Entry). y.caller) (q.seen ++ h.between) x q.number is)
-    ∙ (ap (λ (l : List Entry). entries_by l q.number) (sym h.seen) ∙ (ap (entries_by z.seen) (sym number) ∙ (own ∙ ap (λ (s : PassState). s.mine) h.rest))) in
-    none_made q.seen h.between q.mine q.number kept.own (last_out _ _ x all)
+    none_between q z h.between x is kept h.kept (ap (λ (s : PassState). s.number) h.rest) (ap (λ (s : PassState). s.mine) h.rest) h.seen
 
 -- the first step, which made no entry
 pub none_first : (p q : PassState) (i : Item) (word n : ℕ) → Looked p i word n q → MakesNone p (i ∷ []) q
@@ -131,6 +109,10 @@ none_more p q z T i word n t h = (
   },
   refl,
 )
+
+-- steps without an entry make no call
+pub none_is_made : NoneIsMade
+none_is_made S p steps q was t = others_make_all S p t.between steps q was t.seen t.rest t.kept
 
 -- and the step that made the entry
 pub none_then_entry : (o : ℕ) (call : Call) (r : Reply) (p q z : PassState) (T : List Item) (i : Item) (word n : ℕ) (t : MakesNone p T q) (h : AppendsAt q (entry q.number o call r) i word n z)

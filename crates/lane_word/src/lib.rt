@@ -2,6 +2,7 @@
 #![tactic(auto)]
 
 mod lane;
+pub mod laws;
 #[cfg(test)]
 mod tests;
 #[cfg(test)]

@@ -1,9 +1,9 @@
 -- The tallies after all scripts, object by object.
-use Rattle.std.proofs.Common.{◌≡◌, ◌≢◌, ℕ, zero, suc, ◌+◌, ◌<◌, Bool, List, [], ◌∷◌, ◌++◌, length, set, map, drop, take, refl, ap, sym, ◌∙◌, subst, arith, add-one, drop-cons, eq-eqb, ne_eqb}
+use Rattle.std.proofs.Common.{◌≡◌, ◌≢◌, ℕ, zero, suc, ◌+◌, ◌<◌, Bool, List, [], ◌∷◌, ◌++◌, length, set, map, take, refl, ap, sym, ◌∙◌, subst, arith, eq-eqb, ne_eqb}
 use Rattle.std.specs.Prelude.{if◌then◌else◌, Some, None, slice_get}
 use Rattle.std.specs.declared.option.Option.{Option}
 use Rattle.std.specs.Option.{option_map}
-use Rattle.std.proofs.lemmas.Option.{slice_get-map, slice_get_within, get_or_from_slice_get}
+use Rattle.std.proofs.lemmas.Option.{slice_get-map}
 use Rattle.std.proofs.lemmas.List.{length-map}
 use Rattle.std.proofs.lemmas.Iterator.Adapters.{option_map_id}
 use mathlib.Core.Logic.{dite}
@@ -24,12 +24,6 @@ use Rattle.ledger_sums.proofs.Mixes.{mix_after, told_of_calls}
 -- ---- lists by index
 
 module _ {X : Type 0} where
-  pub drop_next : (xs : List X) (i : ℕ) (x : X) → slice_get xs i ≡ Some x → drop i xs ≡ x ∷ drop (i + 1) xs
-  drop_next xs i x at =
-      drop-cons xs i x (slice_get_within xs i x at)
-      ∙ ap (λ y. y ∷ drop (suc i) xs) (get_or_from_slice_get xs i x x at)
-      ∙ ap (λ n. x ∷ drop n xs) (sym (add-one i))
-
   put_same : (xs : List X) (o : ℕ) (x y : X) → slice_get xs o ≡ Some x → slice_get (set xs o y) o ≡ Some y
   put_same [] o x y at = absurd cc
   put_same (z ∷ xs) zero x y at = refl

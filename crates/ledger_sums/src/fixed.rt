@@ -1,8 +1,9 @@
 //! Fixed values of the objects of a shape under scripts.
 
-ghost use Rattle.std.specs.Prelude.{◌≡◌, length, IfOk};
+ghost use Rattle.std.specs.Prelude.{◌≡◌, length, map, IfOk};
 ghost use Rattle.place_core.specs.Shapes.{IsShape, cells_of_shape};
-ghost use Rattle.place_core.specs.Plain.{ScriptsFit};
+ghost use Rattle.place_core.specs.Pieces.{script_lines};
+ghost use Rattle.place_core.specs.Runs.{ScriptsFit};
 ghost use Rattle.ledger_sums.specs.Fixed.{fixed_values_of};
 
 use crate::tally::{Tally, add_scripts, first_tallies, settled};
@@ -43,8 +44,8 @@ impl Fixed {
 /// the scripts.
 pub fn fixed_values(alloc: Global, shape: &Shape, scripts: &[Script]) -> Result<Fixed, NoMemory>
     requires shape { IsShape shape.now }
-    requires fits { ScriptsFit (cells_of_shape shape.now) scripts.now }
-    ensures values { IfOk result (λ f. f ≡ fixed_values_of (cells_of_shape shape.now) scripts.now) }
+    requires fits { ScriptsFit (cells_of_shape shape.now) (map script_lines scripts.now) }
+    ensures values { IfOk result (λ f. f ≡ fixed_values_of (cells_of_shape shape.now) (map script_lines scripts.now)) }
     ensures whole { IfOk result (λ f. length f ≡ length shape.now.objects) }
 {
     let mut tallies = first_tallies(alloc, shape.objects.as_slice())?;

@@ -1,12 +1,11 @@
 //! Tallies: of each object what the calls on it have been so far, and the value that they leave.
 
-ghost use Rattle.std.specs.Prelude.{◌≡◌, ◌<◌, IfOk};
-ghost use Rattle.std.specs.List.{AllByRecursion};
+ghost use Rattle.std.specs.Prelude.{◌≡◌, ◌<◌, map, IfOk};
 ghost use Rattle.op_table.specs.Kind.{values_of, IsKind};
 ghost use Rattle.op_table.specs.Call.{CallFits};
 ghost use Rattle.place_core.specs.Shapes.{IsShape, cells_of_shape};
-ghost use Rattle.place_core.specs.Runs.{asked_of};
-ghost use Rattle.place_core.specs.Plain.{HasCall, ScriptsFit};
+ghost use Rattle.place_core.specs.Pieces.{script_lines};
+ghost use Rattle.place_core.specs.Runs.{asked_of, HasCall, ScriptFits, ScriptsFit};
 ghost use Rattle.ledger_sums.specs.Tallies.{with_call, settled, AreTallies};
 ghost use Rattle.ledger_sums.specs.Tallies.{first_tallies, next_tallies, tallies_after, tallies_end};
 
@@ -81,24 +80,23 @@ fn add_line(shape: &Shape, tallies: &mut [Tally], line: &Line)
 /// Adds the calls of a script, in order.
 fn add_script(shape: &Shape, tallies: &mut [Tally], script: &Script)
     requires shape { IsShape shape.now }
-    requires fits { AllByRecursion (λ line. HasCall (cells_of_shape shape.now) (asked_of line)) script.now }
+    requires fits { ScriptFits (cells_of_shape shape.now) (script_lines script.now) }
     requires tallies { AreTallies shape.now tallies.old }
-    ensures after { tallies.new ≡ tallies_after shape.now tallies.old script.now }
+    ensures after { tallies.new ≡ tallies_after shape.now tallies.old (script_lines script.now) }
     ensures tallies { AreTallies shape.now tallies.new }
 {
-    let mut i = 0;
-    'lines: while i < script.len() {
-        add_line(shape, tallies, script.at(i));
-        i += 1;
+    let mut lines = script.lines();
+    'lines: while let Some(line) = lines.next() {
+        add_line(shape, tallies, line);
     }
 }
 
 /// Adds the calls of all scripts, one script after another.
 pub fn add_scripts(shape: &Shape, tallies: &mut [Tally], scripts: &[Script])
     requires shape { IsShape shape.now }
-    requires fits { ScriptsFit (cells_of_shape shape.now) scripts.now }
+    requires fits { ScriptsFit (cells_of_shape shape.now) (map script_lines scripts.now) }
     requires tallies { AreTallies shape.now tallies.old }
-    ensures after { tallies.new ≡ tallies_end shape.now tallies.old scripts.now }
+    ensures after { tallies.new ≡ tallies_end shape.now tallies.old (map script_lines scripts.now) }
     ensures tallies { AreTallies shape.now tallies.new }
 {
     let mut rest = scripts;

@@ -1,10 +1,9 @@
 //! Fixed values by example. What is wanted was worked out by hand.
 
 ghost use Rattle.std.specs.Prelude.{◌≡◌, ◌<◌, length, true, IfOk};
-ghost use Rattle.std.specs.List.{AllByRecursion};
 ghost use Rattle.place_core.specs.Shapes.{IsShape, cells_of_shape};
-ghost use Rattle.place_core.specs.Runs.{asked_of};
-ghost use Rattle.place_core.specs.Plain.{HasCall};
+ghost use Rattle.place_core.specs.Pieces.{script_lines};
+ghost use Rattle.place_core.specs.Runs.{asked_of, HasCall, ScriptFits};
 
 use super::*;
 use op_table::{Call, Class, Kind, Order, StepSet, Width, bits, call_fits};
@@ -77,7 +76,7 @@ fn fits(shape: &Shape, line: &Line) -> bool
 /// The script of these calls, each with its object's number.
 fn script_of(alloc: Global, shape: &Shape, calls: &[(u32, Call)]) -> Result<Script, Fail>
     requires { IsShape shape.now }
-    ensures { IfOk result (λ s. AllByRecursion (λ line. HasCall (cells_of_shape shape.now) (asked_of line)) s) }
+    ensures { IfOk result (λ s. ScriptFits (cells_of_shape shape.now) (script_lines s)) }
 {
     let mut script = Script::new(alloc);
     let mut i = 0;

@@ -2,7 +2,7 @@
 use Rattle.std.proofs.Common.{◌≡◌, ℕ, zero, suc, ◌+◌, ◌-◌, ◌*◌, ◌/◌, ◌%◌, ◌^◌, ◌<◌, ◌≤◌, ◌==◌, Bool, true, false, if◌then◌else◌, refl, ap, sym, ◌∙◌, subst, arith, eq-eqb, ne_eqb}
 use Rattle.std.specs.Prelude.{bit_and, bit_or, bit_xor, min, max}
 use Rattle.std.specs.Int.Bits.{xor_zero_r}
-use Rattle.std.proofs.lemmas.Nat.{pow-add, pow_pos, shr_split, shr_below, shr-shr, div-mul-add, mod-mul-add, mod-pow-add, shl-shr, and_comm, and_mask, and_le_r, or_disjoint, and_block, or_block, xor_block, and-not, pow_below, mod_below}
+use Rattle.std.proofs.lemmas.Nat.{pow-add, pow_pos, shr_split, shr_below, shr-shr, div-mul-add, mod-mul-add, mod-pow-add, shl-shr, and_comm, and_mask, and_le_r, or_disjoint, and_block, or_block, xor_block, and-not, mod_below}
 use Rattle.std.proofs.lemmas.Bool.{cases_lt, lt-ltb, le-ltb}
 use Rattle.std.proofs.Math.Nat.{max-eq_left, max-eq_right, min-eq_left, min-eq_right, mul-le-mul_right}
 use Rattle.std.proofs.Common.{⊎_elim}
@@ -10,7 +10,7 @@ use Rattle.std.specs.Prelude.{nat_lt}
 use prog.Atomic.{either}
 use Rattle.place_core.specs.Operations.{IsReplaced, Replaces}
 use mathlib.Core.Logic.{dite}
-use native.Mathlib.Decide.{ℕ_discrete, dec_le}
+use native.Mathlib.Decide.{ℕ_discrete}
 
 -- the word n has the value v in a lane that begins at s and is d wide
 pub record HasLane (s d v n : ℕ) : Type 0 where

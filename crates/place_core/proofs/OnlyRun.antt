@@ -1,16 +1,18 @@
 -- With at most one script a run with the table's replies is the plain history.
-use Rattle.std.proofs.Common.{◌≡◌, ◌≢◌, ◌≤◌, List, [], ◌∷◌, ◌++◌, length, map, refl, sym, subst, ap, ◌∙◌, arith, length-append}
+use Rattle.std.proofs.Common.{◌≡◌, ◌≢◌, ℕ, ◌≤◌, List, [], ◌∷◌, ◌++◌, length, map, refl, sym, subst, ap, ◌∙◌, arith, length-append}
 use Rattle.std.specs.List.{AllByRecursion}
 use Rattle.std.proofs.lemmas.List.{append-nil}
 use Rattle.place_core.specs.declared.entry.Entry.{Entry}
 use Rattle.place_core.specs.declared.script.Line.{Line}
 use Rattle.place_core.specs.Histories.{Each, CallersWithin}
 use Rattle.place_core.specs.Cells.{Cell, entries_by, HasTableReply}
-use Rattle.place_core.specs.Runs.{made_of, loads_from, IsCellRun}
-use Rattle.place_core.specs.Plain.{values_after, entries_of, asked_by, starts_of, plain_history}
-use Rattle.place_core.proofs.EntryLists.{all_map, all_both, Each-append_left, made_by-all, made_by-whole, made_by-absent, made_by-nowhere, CallersWithin-all, CallersWithin-append}
+use Rattle.place_core.specs.Runs.{made_of, asked_by, loads_from, IsCellRun}
+use Rattle.place_core.proofs.PlainHistory.{values_after, entries_of, starts_of, plain_history}
+use Rattle.place_core.proofs.EntryLists.{all_map, all_both, Each-append_left, made_by-append, made_by-all, made_by-whole, made_by-absent, made_by-nowhere, CallersWithin-all, CallersWithin-append}
 use Rattle.place_core.proofs.Tracking.{determined, tracks_start}
-use Rattle.place_core.proofs.PlainRuns.{entries_by-append}
+
+entries_by-append : (H K : List Entry) (c : ℕ) → entries_by (H ++ K) c ≡ entries_by H c ++ entries_by K c
+entries_by-append H K c = made_by-append (λ (x : Entry). x.caller) H K c
 
 none_in : {X : Type 0} (xs : List X) → length xs ≡ 0 → xs ≡ []
 none_in [] e = refl
@@ -31,6 +33,11 @@ none_before B Z loads own =
     none_in (entries_by B 0) (omega (arith, ap length split, length-append (entries_by B 0) Z))
 
 -- so with one script all before them is the thread's
+pub thread_alone : (B Z : List Entry) → Z ≡ entries_by (B ++ Z) 0 → AllByRecursion (λ x. x.caller ≡ 0) Z → CallersWithin (λ (x : Entry). x.caller) 1 (B ++ Z) → AllByRecursion (λ x. x.caller ≡ 1) B
+thread_alone B Z loads own within =
+    let low : AllByRecursion (λ x. x.caller ≤ 1) B = (CallersWithin-all (λ (x : Entry). x.caller) 1 B).0 ((CallersWithin-append (λ (x : Entry). x.caller) 1 B Z).0 within).0 in
+    all_both (λ x. x.caller ≤ 1) (λ x. x.caller ≢ 0) (λ x. x.caller ≡ 1) B (λ x below other. omega arith) low (made_by-nowhere (λ (x : Entry). x.caller) B 0 (none_before B Z loads own))
+
 only_thread : (B Z : List Entry) → AllByRecursion (λ x. x.caller ≡ 1) B → AllByRecursion (λ x. x.caller ≡ 0) Z → entries_by (B ++ Z) 1 ≡ B
 only_thread B Z thread own =
     entries_by-append B Z 1
@@ -41,12 +48,7 @@ only_thread B Z thread own =
 only_one : (cells : List Cell) (script : List Line) (H B Z : List Entry) → Z ≡ entries_by H 0 → H ≡ B ++ Z → IsCellRun cells (script ∷ []) H → Each (HasTableReply cells) H → H ≡ plain_history cells (script ∷ [])
 only_one cells script H B Z loads split run table =
     let own : AllByRecursion (λ x. x.caller ≡ 0) Z = subst (AllByRecursion (λ (x : Entry). x.caller ≡ 0)) (sym loads) (made_by-all (λ (x : Entry). x.caller) H 0) in
-    let none = none_before B Z (loads ∙ ap (λ l. entries_by l 0) split) own in
-    let within : AllByRecursion (λ x. x.caller ≤ 1) B =
-    (CallersWithin-all (λ (x : Entry). x.caller) 1 B).0
-    ((CallersWithin-append (λ (x : Entry). x.caller) 1 B Z).0 (subst (λ l. CallersWithin (λ (x : Entry). x.caller) 1 l) split run.callers)).0 in
-    let thread : AllByRecursion (λ x. x.caller ≡ 1) B =
-    all_both (λ x. x.caller ≤ 1) (λ x. x.caller ≢ 0) (λ x. x.caller ≡ 1) B (λ x below other. omega arith) within (made_by-nowhere (λ (x : Entry). x.caller) B 0 none) in
+    let thread = thread_alone B Z (loads ∙ ap (λ l. entries_by l 0) split) own (subst (CallersWithin (λ (x : Entry). x.caller) 1) split run.callers) in
     let asked : map made_of B ≡ asked_by script = ap (map made_of) (sym (only_thread B Z thread own) ∙ ap (λ l. entries_by l 1) (sym split)) ∙ run.scripted.0 in
     let loaded : map made_of Z ≡ loads_from 0 cells = ap (map made_of) loads ∙ run.ends.loads in
     let both : Each (HasTableReply cells) (B ++ Z) = subst (Each (HasTableReply cells)) split table in

@@ -1,11 +1,11 @@
 -- Which words a place of a valid shape has, and that no other place has them.
-use Rattle.std.proofs.Common.{◌≡◌, ◌≢◌, ◌⊎◌, ⊎_elim, ℕ, ◌+◌, ◌<◌, ◌≤◌, refl, sym, arith, Some}
+use Rattle.std.proofs.Common.{⊎_elim, ℕ, ◌+◌, ◌<◌, ◌≤◌, refl, sym, arith}
 use mathlib.Core.Logic.{dite}
 use native.Mathlib.Decide.{ℕ_discrete}
 use Rattle.place_core.specs.declared.places.Place.{Place}
 use Rattle.place_core.specs.declared.places.Place.TheVariants.{Lane, Parts}
 use Rattle.place_core.specs.declared.shape.Shape.{Shape}
-use Rattle.place_core.specs.Shapes.{place_of, kind_of, IsPlaced, AreApart, IsShape}
+use Rattle.place_core.specs.Shapes.{kind_of, IsPlaced, AreApart}
 use Rattle.place_core.specs.ShapeLaws.{LiesOn, PlaceIsWithin, LanesAreApart, PartWordIsOwn}
 
 within : (S : Shape) (o : ℕ) (a : Place) (v : ℕ) → IsPlaced S (kind_of S o) a → LiesOn a v → v < S.words

@@ -1,10 +1,9 @@
 -- What a shape has under an object's number.
-use Rattle.std.proofs.Common.{◌≡◌, ℕ, zero, suc, List, [], ◌∷◌, map, refl, ap, sym, ◌∙◌, subst, Option, Some, None, slice_get}
+use Rattle.std.proofs.Common.{◌≡◌, ℕ, ap, ◌∙◌, subst, Some, slice_get}
 use Rattle.op_table.specs.declared.kind.Kind.{Kind}
-use Rattle.op_table.specs.Kind.{bits_of}
 use Rattle.place_core.specs.declared.places.Object.{Object}
 use Rattle.place_core.specs.declared.places.Place.{Place}
-use Rattle.place_core.specs.declared.places.Place.TheVariants.{Lane, Parts}
+use Rattle.place_core.specs.declared.places.Place.TheVariants.{Lane}
 use Rattle.place_core.specs.declared.shape.Shape.{Shape}
 use Rattle.place_core.specs.Shapes.{place_in, kind_in, start_in, place_of, kind_of, start_of, IsLane, IsShape}
 

@@ -1,6 +1,6 @@
 -- A shape is valid exactly where its sizes, each of its objects, and the spans of any two pass.
-use Rattle.std.proofs.Common.{◌≡◌, ◌≢◌, ◌⊎◌, ◌↔◌, inl, inr, ⊎_elim, ℕ, zero, suc, ◌+◌, ◌-◌, ◌*◌, ◌/◌, ◌%◌, ◌^◌, ◌<◌, ◌≤◌, Bool, true, false, List, [], ◌∷◌, length, refl, ap, sym, ◌∙◌, subst, arith, get_or, Option, Some, None, slice_get}
-use Rattle.std.specs.Prelude.{slice_index, IsTrue}
+use Rattle.std.proofs.Common.{◌≡◌, ◌≢◌, ◌⊎◌, ◌↔◌, inl, inr, ⊎_elim, ℕ, zero, suc, ◌+◌, ◌-◌, ◌*◌, ◌/◌, ◌%◌, ◌^◌, ◌<◌, ◌≤◌, true, List, [], ◌∷◌, length, refl, ap, sym, ◌∙◌, subst, arith, get_or, Option, Some, None, slice_get}
+use Rattle.std.specs.Prelude.{slice_index}
 use Rattle.std.specs.List.{All, AllPairs, AllByRecursion}
 use Rattle.std.specs.List.Sorted.{IsPermutation, IsSorted}
 use Rattle.std.specs.Ordering.{nat_cmp}
@@ -18,10 +18,10 @@ use Rattle.place_core.specs.declared.places.Object.{Object}
 use Rattle.place_core.specs.declared.places.Place.{Place}
 use Rattle.place_core.specs.declared.places.Place.TheVariants.{Lane, Parts}
 use Rattle.place_core.specs.declared.shape.Shape.{Shape}
-use Rattle.place_core.specs.Shapes.{place_in, kind_in, start_in, place_of, kind_of, start_of, parts_for, IsLane, IsParts, IsPlaced, AreApart, IsInSection, IsShape}
+use Rattle.place_core.specs.Shapes.{place_in, kind_in, start_in, kind_of, start_of, parts_for, IsPlaced, AreApart, IsInSection, IsShape}
 use Rattle.place_core.specs.Validity.{IsSized, IsObject, first_bit, end_bit, span_of, span_in, ApartSpans, AllApart, are_in_row}
 use Rattle.place_core.proofs.ShapeFacts.{place_of-at, kind_of-at, start_of-at}
-use Rattle.place_core.proofs.SpanOrder.{AllPairs-permutation, either_way, IsSpan, turned_apart, row_apart, apart_row}
+use Rattle.place_core.proofs.SpanOrder.{AllPairs-permutation, IsSpan, turned_apart, row_apart, apart_row}
 
 pub bits_pos : (w : Width) → 0 < bits_of w
 bits_pos W1 = omega arith

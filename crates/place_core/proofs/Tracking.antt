@@ -8,13 +8,13 @@ use Rattle.std.proofs.lemmas.List.{append-nil, get_or-set_same, get_or-set_other
 use Rattle.std.proofs.lemmas.Option.{slice_get_within}
 use Rattle.std.proofs.Math.ListN.{length-set}
 use Rattle.op_table.specs.declared.call.Call.{Call}
-use Rattle.op_table.specs.Call.{after_of, answer_of, CallFits}
+use Rattle.op_table.specs.Call.{after_of, answer_of}
 use Rattle.place_core.specs.declared.entry.Entry.{Entry}
 use Rattle.place_core.specs.Histories.{Each}
-use Rattle.place_core.specs.Cells.{Cell, effect_of, left_by, value_of, IsLawful, HasTableReply}
+use Rattle.place_core.specs.Cells.{Cell, effect_of, left_by, value_of, HasTableReply}
 use Rattle.place_core.specs.Runs.{made_of}
-use Rattle.place_core.specs.Plain.{kind_at, answer_at, next_values, values_after, entries_of, starts_of, HasCall}
-use Rattle.place_core.proofs.EntryLists.{Each-more, Each-at}
+use Rattle.place_core.proofs.PlainHistory.{kind_at, answer_at, next_values, values_after, entries_of, starts_of}
+use Rattle.place_core.proofs.EntryLists.{Each-at}
 use Rattle.place_core.proofs.CellValues.{effect_of-answer_of, value_of-start, value_of-own, value_of-other}
 
 pub record Tracks (cells : List Cell) (values : List ℕ) (G : List Entry) : Type 0 where
@@ -36,9 +36,6 @@ pub record There {X : Type 0} (o : Option X) (P : X → Type 0) : Type 0 where
 pub there : {X : Type 0} (o : Option X) (P : X → Type 0) → IsSomeAnd o P → There o P
 there None P some = absurd some
 there (Some x) P some = record { value = x; at = refl; fact = some }
-
-pub back : {X : Type 0} (o : Option X) (P : X → Type 0) (x : X) → o ≡ Some x → P x → IsSomeAnd o P
-back o P x at fact = subst (λ y. IsSomeAnd y P) (sym at) fact
 
 -- ---- the start, and one call more
 
@@ -89,35 +86,6 @@ tracks_next cells values G c asked tracks = record {
         subst (λ i. get_or (next_values cells values asked) i 0 ≡ value_of cells (G ++ made cells values c asked ∷ []) i) hit.1 both
     value_here o cell at (inr miss) =
         get_or-set_other values asked.0 o new 0 (λ same. miss.1 (sym same)) ∙ tracks.each o cell at ∙ sym (value_of-other cells G (made cells values c asked) o miss.1)
-
--- ---- a call that fits is lawful, with the table's reply
-
-abbrev pub IsMade : List Cell → List Entry → Entry → Type 0
-IsMade cells G x = IsLawful cells G x × HasTableReply cells G x
-
-IsMade-made : (cells : List Cell) (values : List ℕ) (G : List Entry) (c : ℕ) (asked : ℕ × Call) → Tracks cells values G → HasCall cells asked → IsMade cells G (made cells values c asked)
-IsMade-made cells values G c asked tracks has =
-    let cell = there (slice_get cells asked.0) (λ cell. CallFits cell.kind asked.1) has in
-    let reply = answered cells values G asked cell.value tracks cell.at in (
-      back (slice_get cells asked.0) _ cell.value cell.at (cell.fact, inl (reply, left cells values G c asked cell.value tracks cell.at)),
-      back (slice_get cells asked.0) _ cell.value cell.at reply,
-    )
-
--- a history that was made so, and its values
-pub record MadeSo (cells : List Cell) (values : List ℕ) (G : List Entry) : Type 0 where
-  pub each : Each (IsMade cells) G
-  pub tracks : Tracks cells values G
-
-pub MadeSo-entries_of : (cells : List Cell) (values : List ℕ) (G : List Entry) (c : ℕ) (asked : List (ℕ × Call)) → MadeSo cells values G → AllByRecursion (HasCall cells) asked → MadeSo cells (values_after cells values asked) (G ++ entries_of cells values c asked)
-MadeSo-entries_of cells values G c [] so all = subst (MadeSo cells values) (sym (append-nil G)) so
-MadeSo-entries_of cells values G c (a ∷ asked) so all =
-    let x = made cells values c a in
-    let one : MadeSo cells (next_values cells values a) (G ++ x ∷ []) = record {
-      each = (Each-more (IsMade cells) G x).1 (so.each, IsMade-made cells values G c a so.tracks all.0);
-      tracks = tracks_next cells values G c a so.tracks;
-    } in
-    let more = MadeSo-entries_of cells (next_values cells values a) (G ++ x ∷ []) c asked one all.1 in
-    subst (MadeSo cells (values_after cells (next_values cells values a) asked)) (append_assoc G (x ∷ []) (entries_of cells (next_values cells values a) c asked)) more
 
 -- ---- entries with the table's replies are determined by their calls
 

@@ -1,5 +1,5 @@
 -- Objects as they are declared.
-use Rattle.std.specs.Prelude.{ℕ, ◌<◌, List, map}
+use Rattle.std.specs.Prelude.{◌<◌, List, map}
 use Rattle.op_table.specs.Kind.{values_of, IsKind}
 use Rattle.place_core.specs.declared.name.Declared.{Declared}
 use Rattle.place_core.specs.Cells.{Cell}

@@ -1,12 +1,9 @@
 -- Laws over histories, as the module `laws` proves them.
-use Rattle.std.specs.Prelude.{◌≡◌, ◌≢◌, ◌↔◌, ℕ, suc, ◌≤◌, List, [], ◌∷◌, ◌++◌, length, Some, slice_get}
+use Rattle.std.specs.Prelude.{◌≡◌, ◌≢◌, ◌↔◌, ℕ, suc, ◌≤◌, List, [], ◌∷◌, ◌++◌, Some, slice_get}
 use mathlib.Core.List.{IsPrefix}
 use Rattle.place_core.specs.declared.entry.Entry.{Entry}
-use Rattle.place_core.specs.declared.script.Line.{Line}
-use Rattle.place_core.specs.Histories.{Each, CallersWithin}
-use Rattle.place_core.specs.Cells.{Cell, left_by, value_of, entries_by, IsLawful, IsLegal, HasTableReply}
-use Rattle.place_core.specs.Runs.{IsCellRun}
-use Rattle.place_core.specs.Plain.{plain_history, ScriptsFit}
+use Rattle.place_core.specs.Histories.{CallersWithin}
+use Rattle.place_core.specs.Cells.{Cell, left_by, value_of, entries_by, IsLawful, IsLegal}
 
 -- ---- legal histories
 
@@ -65,15 +62,3 @@ CallersInFront = (H K : List Entry) (n : ℕ) → IsPrefix H K → CallersWithin
 -- a caller whose number is above all in the history has no entry in it
 abbrev pub EntriesOfNew : Type 0
 EntriesOfNew = (H : List Entry) (n c : ℕ) → CallersWithin (λ (x : Entry). x.caller) n H → suc n ≤ c → entries_by H c ≡ []
-
--- ---- runs over a plain list of numbers
-
--- calls made one after another are a run, with the table's replies
-abbrev pub PlainIsRun : Type 0
-PlainIsRun = (cells : List Cell) (scripts : List (List Line)) → ScriptsFit cells scripts →
-    IsCellRun cells scripts (plain_history cells scripts) × Each (HasTableReply cells) (plain_history cells scripts)
-
--- with at most one script no other history is one
-abbrev pub PlainIsOnlyRun : Type 0
-PlainIsOnlyRun = (cells : List Cell) (scripts : List (List Line)) (H : List Entry) → length scripts ≤ 1 →
-    IsCellRun cells scripts H → Each (HasTableReply cells) H → H ≡ plain_history cells scripts

@@ -4,8 +4,8 @@ pub mod RepliesState
 pub mod Histories
 pub mod Cells
 pub mod DeclaredObjects
+pub mod Pieces
 pub mod Runs
-pub mod Plain
 pub mod Laws
 pub mod WordSums
 pub mod Shapes
@@ -14,6 +14,7 @@ pub mod Validity
 pub mod ShapeLaws
 pub mod Changes
 pub mod Earned
+pub mod ShapeRuns
 pub mod PartValues
 pub mod Passes
 pub mod WordLaws

@@ -1,5 +1,5 @@
 -- Which step on a word makes a whole call on a lane, and how each call is made.
-use Rattle.std.specs.Prelude.{◌≡◌, ℕ, ◌+◌, ◌-◌, ◌*◌, ◌/◌, ◌%◌, ◌^◌, ◌==◌, Bool, true, false, not, ◌&&◌, if◌then◌else◌, Option, Some, None, bit_and, bit_or, bit_xor, min, max}
+use Rattle.std.specs.Prelude.{◌≡◌, ℕ, ◌+◌, ◌-◌, ◌*◌, ◌/◌, ◌%◌, ◌^◌, ◌==◌, Bool, true, not, ◌&&◌, if◌then◌else◌, Option, Some, None, bit_and, bit_or, bit_xor, min, max}
 use prog.Atomic.{either}
 use Rattle.op_table.specs.declared.kind.Kind.{Kind}
 use Rattle.op_table.specs.declared.order.StepSet.{StepSet}

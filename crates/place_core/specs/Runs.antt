@@ -1,8 +1,10 @@
 -- Runs of scripts over cells.
-use Rattle.std.specs.Prelude.{◌≡◌, ℕ, ◌+◌, List, [], ◌∷◌, ◌++◌, length, map}
+use Rattle.std.specs.Prelude.{◌≡◌, ℕ, ◌+◌, List, [], ◌∷◌, ◌++◌, length, map, slice_get, IsSomeAnd}
+use Rattle.std.specs.List.{AllByRecursion}
 use Rattle.op_table.specs.declared.call.Call.{Call}
 use Rattle.op_table.specs.declared.call.Call.TheVariants.{Load}
 use Rattle.op_table.specs.declared.call.Reply.{Reply}
+use Rattle.op_table.specs.Call.{CallFits}
 use Rattle.place_core.specs.declared.entry.Entry.{Entry}
 use Rattle.place_core.specs.declared.script.Line.{Line}
 use Rattle.place_core.specs.Histories.{CallersWithin}
@@ -15,6 +17,21 @@ made_of x = (x.object, x.call)
 -- the object and the call that a line asks for
 abbrev pub asked_of : Line → ℕ × Call
 asked_of line = (line.object, line.call)
+
+-- the calls that lines ask for
+abbrev pub asked_by : List Line → List (ℕ × Call)
+asked_by lines = map asked_of lines
+
+-- a cell is there, and has the call
+abbrev pub HasCall : List Cell → ℕ × Call → Type 0
+HasCall cells asked = IsSomeAnd (slice_get cells asked.0) (λ cell. CallFits cell.kind asked.1)
+
+-- each line's object is there, and has its call
+abbrev pub ScriptFits : List Cell → List Line → Type 0
+ScriptFits cells script = AllByRecursion (λ line. HasCall cells (asked_of line)) script
+
+abbrev pub ScriptsFit : List Cell → List (List Line) → Type 0
+ScriptsFit cells scripts = AllByRecursion (ScriptFits cells) scripts
 
 -- the replies of a caller, in order
 abbrev pub replies_by : List Entry → ℕ → List Reply

@@ -1,5 +1,5 @@
 -- Shapes: where objects lie, and which shapes are valid.
-use Rattle.std.specs.Prelude.{◌≡◌, ◌≢◌, ◌⊎◌, ℕ, ◌+◌, ◌-◌, ◌*◌, ◌/◌, ◌^◌, ◌<◌, ◌≤◌, ◌==◌, Bool, true, false, List, length, map, Option, Some, None, slice_get}
+use Rattle.std.specs.Prelude.{◌≡◌, ◌≢◌, ◌⊎◌, ℕ, ◌+◌, ◌-◌, ◌/◌, ◌^◌, ◌<◌, ◌≤◌, ◌==◌, Bool, true, false, List, length, map, Option, Some, None, slice_get}
 use Rattle.op_table.specs.declared.kind.Kind.{Kind}
 use Rattle.op_table.specs.declared.kind.Width.TheVariants.{W1}
 use Rattle.op_table.specs.declared.kind.Class.TheVariants as class
@@ -10,7 +10,7 @@ use Rattle.place_core.specs.declared.places.Place.TheVariants.{Lane, Parts}
 use Rattle.place_core.specs.declared.places.Object.{Object}
 use Rattle.place_core.specs.declared.shape.Shape.{Shape}
 use Rattle.place_core.specs.Cells.{Cell, value_of}
-use Rattle.place_core.specs.WordSums.{Strip, lies_in, lanes_in, word_sum}
+use Rattle.place_core.specs.WordSums.{Strip, lanes_in, word_sum}
 
 -- ---- what a shape has under an object's number
 

@@ -1,6 +1,7 @@
 //! Laws over histories: each is the clause of a function that does nothing.
 
-ghost use Rattle.place_core.specs.Laws.{EmptyIsLegal, LegalWithOneMore, LegalInFront, ValueAtStart, ValueAfterOwn, ValueAfterOther, EntriesOfNone, EntriesWithOwn, EntriesWithOther, EntriesInFront, CallersOfNone, CallersWithOneMore, CallersWithinMore, CallersInFront, EntriesOfNew, PlainIsRun, PlainIsOnlyRun};
+ghost use Rattle.place_core.specs.Laws.{EmptyIsLegal, LegalWithOneMore, LegalInFront, ValueAtStart, ValueAfterOwn, ValueAfterOther, EntriesOfNone, EntriesWithOwn, EntriesWithOther, EntriesInFront, CallersOfNone, CallersWithOneMore, CallersWithinMore, CallersInFront, EntriesOfNew};
+ghost use Rattle.place_core.specs.ShapeRuns.{OneThreadRunsAlike};
 
 pub mod changes;
 pub mod parts;
@@ -81,12 +82,7 @@ pub fn entries_of_new()
     ensures { EntriesOfNew }
 {}
 
-/// Calls made one after another over a plain list of numbers are a run, with the table's replies.
-pub fn plain_is_run()
-    ensures { PlainIsRun }
-{}
-
-/// With at most one script no other history is such a run.
-pub fn plain_is_only_run()
-    ensures { PlainIsOnlyRun }
+/// With at most one script, runs over shapes of the same cells are one history, however the cells lie.
+pub fn one_thread_runs_alike()
+    ensures { OneThreadRunsAlike }
 {}

@@ -6,6 +6,7 @@ ghost use Rattle.op_table.specs.Kind.{IsKind};
 ghost use Rattle.op_table.specs.Call.{ReplyFits};
 ghost use Rattle.work_lang.specs.Streams.{Writes};
 ghost use Rattle.place_core.specs.DeclaredObjects.{IsDeclared};
+ghost use Rattle.place_core.specs.Pieces.{script_lines};
 ghost use Rattle.work_lang.specs.Workload.{LineFits, HasLine};
 ghost use Rattle.work_lang.specs.Reading.{kind_at};
 ghost use Rattle.report_text.specs.Report.{reply_line, reply_lines, thread_head, thread_lines, last_line, last_lines, lines_with, AnswerLines, AnswerThreads, AnswerObjects, items_of};
@@ -42,17 +43,19 @@ fn write_calls<K: Sink>(
     sink: &mut K,
 ) -> Result<(), WriteEnd>
     requires sound { AllByRecursion IsDeclared objects.now }
-    requires fits { AllByRecursion (LineFits objects.now) script.now }
-    requires answers { AnswerLines objects.now script.now replies.now.items }
-    ensures { Writes K.taken K.faults sink.old sink.new result (reply_lines objects.now script.now replies.now.items) }
+    requires fits { AllByRecursion (LineFits objects.now) (script_lines script.now) }
+    requires answers { AnswerLines objects.now (script_lines script.now) replies.now.items }
+    ensures { Writes K.taken K.faults sink.old sink.new result (reply_lines objects.now (script_lines script.now) replies.now.items) }
 {
-    let mut i = 0;
-    'calls: while i < script.len() {
-        match write_reply(objects, script.at(i), replies.at(i), sink) {
+    let mut lines = script.lines();
+    'calls: for i in 0..replies.len() {
+        let Some(line) = lines.next() else {
+            unreachable!()
+        };
+        match write_reply(objects, line, replies.at(i), sink) {
             Ok(()) => {}
             Err(end) => return Err(end),
         }
-        i += 1;
     }
     Ok(())
 }
@@ -76,10 +79,10 @@ fn write_threads<K: Sink>(
     sink: &mut K,
 ) -> Result<(), WriteEnd>
     requires sound { AllByRecursion IsDeclared objects.now }
-    requires fits { AllByRecursion (AllByRecursion (LineFits objects.now)) threads.now }
-    requires answers { AnswerThreads objects.now threads.now (map items_of replies.now) }
+    requires fits { AllByRecursion (AllByRecursion (LineFits objects.now)) (map script_lines threads.now) }
+    requires answers { AnswerThreads objects.now (map script_lines threads.now) (map items_of replies.now) }
     requires few { length threads.now ≤ 64 }
-    ensures { Writes K.taken K.faults sink.old sink.new result (thread_lines objects.now 1 threads.now (map items_of replies.now)) }
+    ensures { Writes K.taken K.faults sink.old sink.new result (thread_lines objects.now 1 (map script_lines threads.now) (map items_of replies.now)) }
 {
     let mut number = 1;
     let mut threads = threads;

@@ -1,8 +1,20 @@
-//! The texts of replies. Whole reports are tested with the program.
+//! The texts of replies, and a report of two threads.
 
-use crate::push_reply;
-use op_table::{Class, Kind, LineBuf, Reply, Width};
+ghost use Rattle.std.specs.Prelude.{◌≡◌, ◌∷◌, [], true, IfOk};
+ghost use Rattle.target_desc.specs.Target.{IsTarget};
+ghost use Rattle.place_core.specs.DeclaredObjects.{IsDeclared};
+ghost use Rattle.place_core.specs.Name.{is_name};
+ghost use Rattle.place_core.specs.Pieces.{script_lines};
+ghost use Rattle.work_lang.specs.Workload.{LineFits};
+ghost use Rattle.report_text.specs.Report.{AnswerThreads, AnswerObjects};
+
+use crate::{push_reply, report};
+use op_table::{Call, Class, Kind, LineBuf, NoMemory, Order, Reply, Width};
+use place_core::{Declared, Line, Name, Replies, Script};
+use std::alloc::Global;
 use std::test::Fail;
+use target_desc::{Target, builtin, target_ok};
+use work_lang::{MemSink, Work};
 
 const BYTE: Kind = Kind {
     width: Width::W8,
@@ -35,5 +47,118 @@ fn prints_each_reply(rt: HostRuntime) -> Result<(), Fail> {
     out.push_text(b",");
     push_reply(&mut out, BYTE, &Reply::Bit(false));
     assert_eq!(rt; out.bytes(), b"unit,-1,ok 0x10,err true,false".as_slice());
+    Ok(())
+}
+
+/// A script of one call.
+fn script_of(alloc: Global, line: Line) -> Result<Script, NoMemory>
+    ensures { IfOk result (λ s. script_lines s ≡ line ∷ []) }
+{
+    let mut script = Script::new(alloc);
+    script.push(line)?;
+    Ok(script)
+}
+
+/// A workload of one object, and two threads of a call each.
+fn work_of(
+    alloc: Global,
+    target: Target,
+    object: Declared,
+    first: Line,
+    second: Line,
+) -> Result<Work, NoMemory>
+    requires target { IsTarget target }
+    requires object { IsDeclared object }
+    requires name { is_name object.name ≡ true }
+    requires first { LineFits (object ∷ []) first }
+    requires second { LineFits (object ∷ []) second }
+    ensures objects { IfOk result (λ w. w.objects ≡ object ∷ []) }
+    ensures threads { IfOk result (λ w. w.threads ≡ (first ∷ []) ∷ (second ∷ []) ∷ []) }
+{
+    let first = script_of(alloc, first)?;
+    let second = script_of(alloc, second)?;
+    let mut objects = Vec::new(alloc);
+    let mut threads = Vec::new(alloc);
+    objects.push(object).map_err(|_| NoMemory)?;
+    threads.push(first).map_err(|_| NoMemory)?;
+    threads.push(second).map_err(|_| NoMemory)?;
+    Ok(Work::of_parts(target, objects, threads))
+}
+
+/// The one reply.
+fn reply_of(alloc: Global, reply: Reply) -> Result<Replies, NoMemory>
+    ensures { IfOk result (λ r. r.items ≡ reply ∷ []) }
+{
+    let mut replies = Replies::with_room(alloc, 1)?;
+    replies.push(reply);
+    Ok(replies)
+}
+
+/// Writes the report of two threads with a reply each, of one object.
+fn write_report(
+    alloc: Global,
+    work: &Work,
+    first: Reply,
+    second: Reply,
+    last: Reply,
+    sink: &mut MemSink,
+) -> Result<(), Fail>
+    requires threads { AnswerThreads work.now.objects work.now.threads ((first ∷ []) ∷ (second ∷ []) ∷ []) }
+    requires last { AnswerObjects work.now.objects (last ∷ []) }
+{
+    let replies = [reply_of(alloc, first)?, reply_of(alloc, second)?];
+    let last = reply_of(alloc, last)?;
+    report(work, &replies, &last, sink)?;
+    Ok(())
+}
+
+const OCTET: Kind = Kind {
+    width: Width::W8,
+    signed: false,
+    class: Class::Int,
+};
+
+const ADD: Line = Line {
+    object: 0,
+    call: Call::Add(5, false),
+    success: Order::SeqCst,
+    failure: None,
+};
+
+const EXCHANGE: Line = Line {
+    object: 0,
+    call: Call::Cas(7, 9),
+    success: Order::Acquire,
+    failure: Some(Order::Relaxed),
+};
+
+#[test]
+fn writes_two_threads(rt: HostRuntime) -> Result<(), Fail> {
+    let target = builtin(b"cas32").ok_or("no target")?;
+    assert!(rt; target_ok(&target));
+    let object = Declared {
+        name: Name::of(b"n").ok_or("no name")?,
+        kind: OCTET,
+        start: 7,
+    };
+    let work = work_of(rt.alloc(), target, object, ADD, EXCHANGE)?;
+    let mut sink = MemSink::of(rt.alloc(), 256, 256, &[])?;
+    write_report(
+        rt.alloc(),
+        &work,
+        Reply::Value(7),
+        Reply::Failed(12),
+        Reply::Value(12),
+        &mut sink,
+    )?;
+    let expected = "target cas32
+thread 1
+n fetch_add 5 = 7
+thread 2
+n compare_exchange 7 9 acquire relaxed = err 12
+last
+n 12
+";
+    assert_eq!(rt; sink.bytes(), expected.as_bytes());
     Ok(())
 }

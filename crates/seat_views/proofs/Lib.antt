@@ -12,6 +12,7 @@ pub mod LockFacts
 pub mod LockLanding
 pub mod LockTies
 pub mod LockUses
+pub mod Making
 pub mod MoveSteps
 pub mod Openings
 pub mod PathCounts

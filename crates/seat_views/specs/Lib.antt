@@ -19,3 +19,4 @@ pub mod Paths
 pub mod PathLaws
 pub mod StepCounts
 pub mod Makes
+pub mod MakesLaws

@@ -9,6 +9,7 @@ ghost use Rattle.seat_views.specs.StepCounts.{SectionLoadStoresNone, WideLoadSta
 ghost use Rattle.seat_views.specs.StepCounts.{HeldGlanceTakes, MovedGlanceTakes, TakeFollowsMissedLook};
 ghost use Rattle.seat_views.specs.StepCounts.{WideLoadStoresNone, GlanceIsShort, MatchedGlanceIsPath};
 ghost use Rattle.seat_views.specs.StepCounts.{MissedGlanceGoesOn};
+ghost use Rattle.seat_views.specs.MakesLaws.{NothingMakesNone, CallIsMade, StepsMakeNone, MadeJoin, CallsJoin};
 
 /// What is eaten of a trail as the steps of a call is eaten of every longer one.
 pub fn path_stretches()
@@ -143,4 +144,29 @@ pub fn call_releases_last()
 /// A load that took the lock ends with a release of the stamp that it took.
 pub fn load_releases_last()
     ensures { LoadReleasesLast }
+{}
+
+/// A pass with nothing in flight has made no calls, by no step.
+pub fn nothing_makes_none()
+    ensures { NothingMakesNone }
+{}
+
+/// A call is a list of calls with this one.
+pub fn call_is_made()
+    ensures { CallIsMade }
+{}
+
+/// Steps that add no entry make no call.
+pub fn steps_make_none()
+    ensures { StepsMakeNone }
+{}
+
+/// What a pass made, and then made, is made: the calls, the replies and the steps are joined.
+pub fn made_join()
+    ensures { MadeJoin }
+{}
+
+/// So are calls with their paths.
+pub fn calls_join()
+    ensures { CallsJoin }
 {}

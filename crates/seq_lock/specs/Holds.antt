@@ -18,7 +18,8 @@ use Rattle.seat_views.specs.Paths.{eat_run, eat_takes, eat_locked}
 use Rattle.seat_views.specs.States.{PassState, IsKept}
 use Rattle.seat_views.specs.Makes.{MakesEntry}
 
--- the pass made these steps and no entry, and then f is in flight
+-- the pass made these steps and no entry, and then f is in flight; where f is nothing they are the steps of no call, as
+-- seat_views' law `StepsMakeNone` says
 abbrev pub Steps : PassState → List Item → Flight → PassState → Type 0
 Steps p T f q = q ≡ record p { trail = p.trail ++ T; flight = f }
 

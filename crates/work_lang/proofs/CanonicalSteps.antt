@@ -8,7 +8,9 @@ use Rattle.op_table.specs.Kind.{IsKind}
 use Rattle.target_desc.specs.declared.target.Target.{Target}
 use Rattle.place_core.specs.declared.name.Declared.{Declared}
 use Rattle.place_core.specs.declared.script.Line.{Line}
-use Rattle.place_core.proofs.PlainReplies.{drop-next}
+use Rattle.place_core.specs.declared.script.Piece.{Piece}
+use Rattle.place_core.specs.Pieces.{script_lines}
+use Rattle.place_core.proofs.Prefixes.{drop-next}
 use Rattle.place_core.specs.DeclaredObjects.{IsDeclared}
 use Rattle.work_lang.specs.Workload.{Workload, HasLine, LineFits}
 use Rattle.work_lang.specs.Canonical.{target_line, object_line, thread_lines, canonical_lines}
@@ -34,8 +36,10 @@ line_said objects line sound fits = said objects line.object sound fits
     said (x ∷ xs) zero sound fits = (sound.0.0, fits)
     said (x ∷ xs) (suc o) sound fits = said xs o sound.1 fits
 
-pub thread_first : (objects : List Declared) (lss : List (List Line)) (ls : List Line) → 1 ≤ length lss → ls ≡ get_or lss 0 ls → flat_map (thread_lines objects) lss ≡ thread_lines objects ls ++ flat_map (thread_lines objects) (others lss)
-thread_first objects lss ls some is = ap (flat_map (thread_lines objects)) (item_others lss ls some is) ∙ flat_map-cons (thread_lines objects) ls (others lss)
+pub thread_first : (objects : List Declared) (scripts : List (List Piece)) (script : List Piece) → 1 ≤ length scripts → script ≡ get_or scripts 0 script → flat_map (thread_lines objects) (map script_lines scripts) ≡ thread_lines objects (script_lines script) ++ flat_map (thread_lines objects) (map script_lines (others scripts))
+thread_first objects scripts script some is =
+    ap (λ l. flat_map (thread_lines objects) (map script_lines l)) (item_others scripts script some is)
+    ∙ flat_map-cons (thread_lines objects) (script_lines script) (map script_lines (others scripts))
 
 -- the parts of a canonical text, of the target, the objects and the threads of its workload
 pub lines_made : (w : Workload) (t : Target) (os : List Declared) (ts : List (List Line)) → t ≡ w.target → os ≡ w.objects → ts ≡ w.threads → (codes "work 1\n" ∷ []) ++ ((target_line t ∷ []) ++ (map object_line os ++ flat_map (thread_lines os) ts)) ≡ canonical_lines w

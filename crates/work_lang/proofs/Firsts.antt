@@ -1,5 +1,5 @@
 -- A list is its first and the others, as a pattern `[first, others @ ..]` on a slice names them.
-use Rattle.std.proofs.Common.{◌≡◌, ◌-◌, ◌≤◌, List, [], ◌∷◌, length, take, drop, get_or, sym, subst, ap, ◌∙◌, arith}
+use Rattle.std.proofs.Common.{◌≡◌, ◌-◌, ◌≤◌, List, [], ◌∷◌, length, map, take, drop, get_or, sym, subst, ap, ◌∙◌, arith}
 use Rattle.std.proofs.lemmas.List.{take_all}
 use Rattle.std.specs.List.{AllByRecursion}
 
@@ -29,3 +29,7 @@ AllByRecursion-first P (x ∷ xs) default some all = all.0
 pub AllByRecursion-others : {X : Type 0} (P : X → Type 0) (xs : List X) → AllByRecursion P xs → AllByRecursion P (others xs)
 AllByRecursion-others P [] all = tt
 AllByRecursion-others P (x ∷ xs) all = subst (λ l. AllByRecursion P l) (sym (others-cons x xs)) all.1
+
+-- what holds of each image holds of the first one's, and of the others'
+pub AllByRecursion-mapped : {X Y : Type 0} (P : Y → Type 0) (f : X → Y) (xs : List X) (item : X) → 1 ≤ length xs → item ≡ get_or xs 0 item → AllByRecursion P (map f xs) → P (f item) × AllByRecursion P (map f (others xs))
+AllByRecursion-mapped P f xs item some is all = subst (λ l. AllByRecursion P (map f l)) (item_others xs item some is) all

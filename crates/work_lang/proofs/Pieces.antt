@@ -22,7 +22,7 @@ front_of done piece left n within = sym (take-append-add done (piece ++ left) n 
 
 -- nothing is written yet
 pub wrote_none : {S : Type 0} (taken : S → Option (List ℕ)) (faults : S → ℕ) (old : S) (lines : List (List ℕ)) → WroteUpTo taken faults old old lines lines
-wrote_none taken faults old lines = record { done = []; split = refl; told = Appends-nothing (taken old); later = omega arith }
+wrote_none taken faults old lines = record { done = []; split = refl; told = Appends-nothing (taken old); same = refl }
 
 -- one more piece is written
 pub wrote_more : {S E : Type 0} {taken : S → Option (List ℕ)} {faults : S → ℕ} {old mid new : S} {lines rest piece left : List (List ℕ)} {result : Result (Unit {0}) E} {u : Unit {0}} → rest ≡ piece ++ left → result ≡ Ok u → WroteUpTo taken faults old mid lines rest → Writes taken faults mid new result piece → WroteUpTo taken faults old new lines left
@@ -32,7 +32,7 @@ wrote_more {taken = taken} {faults = faults} {old = old} {mid = mid} {new = new}
       done = wrote.done ++ piece;
       split = wrote.split ∙ ap (λ (l : List (List ℕ)). wrote.done ++ l) parts ∙ sym (append_assoc wrote.done piece left);
       told = subst (λ (l : List ℕ). Appends (taken old) (taken new) l) (sym (text_of-append wrote.done piece)) (Appends-twice _ _ _ (text_of wrote.done) (text_of piece) wrote.told ok.ok);
-      later = omega (arith, wrote.later, ok.cause.later);
+      same = omega (arith, wrote.same, ok.cause.same);
     }
 
 -- a piece failed
@@ -50,7 +50,7 @@ wrote_stops {taken = taken} {faults = faults} {old = old} {mid = mid} {new = new
         omega (arith, front.1, ap length text, length-append done (text_of piece ++ text_of left), length-append (text_of piece) (text_of left)),
         subst (λ (l : List ℕ). Appends (taken old) (taken new) l) (front_of done (text_of piece) (text_of left) front.0 (omega (arith, front.1)) ∙ ap (take n) (sym text)) (Appends-twice _ _ _ done (take front.0 (text_of piece)) wrote.told front.2),
       );
-      cause = record { later = omega (arith, wrote.later, err.cause.later); failed = omega (arith, wrote.later, err.cause.failed) };
+      cause = record { later = omega (arith, wrote.same, err.cause.later); failed = omega (arith, wrote.same, err.cause.failed); same = tt };
     }
 
 -- no line is left
@@ -58,7 +58,7 @@ pub wrote_all : {S E : Type 0} {taken : S → Option (List ℕ)} {faults : S →
 wrote_all {taken = taken} {old = old} {new = new} {lines = lines} {rest = rest} u none wrote = record {
   ok = subst (λ (l : List (List ℕ)). Appends (taken old) (taken new) (text_of l)) (sym (wrote.split ∙ ap (λ (l : List (List ℕ)). wrote.done ++ l) none ∙ append-nil wrote.done)) wrote.told;
   err = tt;
-  cause = record { later = wrote.later; failed = tt };
+  cause = record { later = omega (arith, wrote.same); failed = tt; same = wrote.same };
 }
 
 -- the last piece, whose answer is that of all

@@ -1,5 +1,5 @@
 -- Counts of faults, and what they say of an answer.
-use Rattle.std.specs.Prelude.{ℕ, ◌+◌, ◌-◌, ◌^◌, ◌≤◌, min, Result, OnErr}
+use Rattle.std.specs.Prelude.{ℕ, ◌≡◌, ◌+◌, ◌-◌, ◌^◌, ◌≤◌, min, Result, OnOk, OnErr}
 
 -- the last value of a count, at which it stands still
 abbrev pub last_count : ℕ
@@ -13,7 +13,8 @@ next_count n = min (n + 1) last_count
 abbrev pub Rose : ℕ → ℕ → Type 0
 Rose before now = next_count before ≤ now
 
--- the count never falls, and an error comes only where it rose
+-- the count never falls: an error comes only where it rose, and without one it is as before
 pub record HasCause {T E : Type 0} (before now : ℕ) (result : Result T E) : Type 0 where
   pub later : before ≤ now
   pub failed : OnErr result (Rose before now)
+  pub same : OnOk result (now ≡ before)

@@ -8,9 +8,9 @@ most_bytes = 8388608
 abbrev pub most_objects : ℕ
 most_objects = 1024
 
--- one thread so far
+-- threads of a workload
 abbrev pub most_threads : ℕ
-most_threads = 1
+most_threads = 64
 
 -- calls of a thread
 abbrev pub most_calls : ℕ

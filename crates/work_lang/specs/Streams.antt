@@ -31,9 +31,9 @@ pub record Writes {S E : Type 0} (taken : S → Option (List ℕ)) (faults : S �
   pub err : OnErr result (AppendsFront (taken old) (taken new) (text_of lines))
   pub cause : HasCause (faults old) (faults new) result
 
--- lines that are written one by one: those before `rest` were taken
+-- lines that are written one by one: those before `rest` were taken, and nothing failed
 pub record WroteUpTo {S : Type 0} (taken : S → Option (List ℕ)) (faults : S → ℕ) (old new : S) (lines rest : List (List ℕ)) : Type 0 where
   pub done : List (List ℕ)
   pub split : lines ≡ done ++ rest
   pub told : Appends (taken old) (taken new) (text_of done)
-  pub later : faults old ≤ faults new
+  pub same : faults new ≡ faults old

@@ -7,6 +7,7 @@ ghost use Rattle.target_desc.specs.Target.{IsTarget};
 ghost use Rattle.place_core.specs.Name.{is_name};
 ghost use Rattle.work_lang.specs.Streams.{Writes};
 ghost use Rattle.place_core.specs.DeclaredObjects.{IsDeclared};
+ghost use Rattle.place_core.specs.Pieces.{script_lines};
 ghost use Rattle.work_lang.specs.Workload.{HasLine, LineFits};
 ghost use Rattle.work_lang.specs.Canonical.{target_line, object_line, ended_call_line, thread_lines, canonical_lines};
 
@@ -78,16 +79,15 @@ fn write_call<K: Sink>(objects: &[Declared], line: &Line, sink: &mut K) -> Resul
 /// Writes the lines of a thread's calls.
 fn write_calls<K: Sink>(objects: &[Declared], script: &Script, sink: &mut K) -> Result<(), WriteEnd>
     requires sound { AllByRecursion IsDeclared objects.now }
-    requires fits { AllByRecursion (LineFits objects.now) script.now }
-    ensures { Writes K.taken K.faults sink.old sink.new result (map (ended_call_line objects.now) script.now) }
+    requires fits { AllByRecursion (LineFits objects.now) (script_lines script.now) }
+    ensures { Writes K.taken K.faults sink.old sink.new result (map (ended_call_line objects.now) (script_lines script.now)) }
 {
-    let mut i = 0;
-    'calls: while i < script.len() {
-        match write_call(objects, script.at(i), sink) {
+    let mut lines = script.lines();
+    'calls: while let Some(line) = lines.next() {
+        match write_call(objects, line, sink) {
             Ok(()) => {}
             Err(end) => return Err(end),
         }
-        i += 1;
     }
     Ok(())
 }
@@ -99,8 +99,8 @@ fn write_thread<K: Sink>(
     sink: &mut K,
 ) -> Result<(), WriteEnd>
     requires sound { AllByRecursion IsDeclared objects.now }
-    requires fits { AllByRecursion (LineFits objects.now) script.now }
-    ensures { Writes K.taken K.faults sink.old sink.new result (thread_lines objects.now script.now) }
+    requires fits { AllByRecursion (LineFits objects.now) (script_lines script.now) }
+    ensures { Writes K.taken K.faults sink.old sink.new result (thread_lines objects.now (script_lines script.now)) }
 {
     match write_all(b"thread\n", sink) {
         Ok(()) => {}
@@ -120,8 +120,8 @@ fn write_threads<K: Sink>(
     sink: &mut K,
 ) -> Result<(), WriteEnd>
     requires sound { AllByRecursion IsDeclared objects.now }
-    requires fits { AllByRecursion (AllByRecursion (LineFits objects.now)) threads.now }
-    ensures { Writes K.taken K.faults sink.old sink.new result (flat_map (thread_lines objects.now) threads.now) }
+    requires fits { AllByRecursion (AllByRecursion (LineFits objects.now)) (map script_lines threads.now) }
+    ensures { Writes K.taken K.faults sink.old sink.new result (flat_map (thread_lines objects.now) (map script_lines threads.now)) }
 {
     let mut threads = threads;
     'threads: while let [script, next_threads @ ..] = threads {

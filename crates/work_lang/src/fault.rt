@@ -54,7 +54,7 @@ pub enum WorkFault {
     /// The first fault of the text: its line, counted from 1, and its word. Line 0 is the whole text.
     #[error("line {line} word {word} {cause:?}")]
     Text { line: u32, word: u32, cause: Cause },
-    /// Memory was wanting, whatever the text.
+    /// Memory was wanting, whatever the text; a text that is too long is told as that.
     #[error("out of memory")]
     NoMemory,
 }

@@ -6,8 +6,8 @@ pub const MOST_BYTES: usize = 8_388_608;
 /// Objects of a workload.
 pub const MOST_OBJECTS: usize = 1024;
 
-/// Threads of a workload, one so far.
-pub const MOST_THREADS: usize = 1;
+/// Threads of a workload.
+pub const MOST_THREADS: usize = 64;
 
 /// Calls of a thread.
 pub const MOST_CALLS: u32 = 65_536;

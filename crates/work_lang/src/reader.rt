@@ -1,8 +1,9 @@
 //! Reading a workload line by line.
 
-ghost use Rattle.std.specs.Prelude.{◌≡◌, ◌<◌, ◌≤◌, ◌^◌, length, OnOk, IfOk, Ok};
+ghost use Rattle.std.specs.Prelude.{◌≡◌, ◌<◌, ◌≤◌, ◌^◌, length, OnOk, IfOk, Ok, Err};
 ghost use Rattle.std.specs.List.{list_all};
 ghost use Rattle.line_words.specs.Steps.{Gives};
+ghost use Rattle.work_lang.specs.Limits.{most_bytes};
 ghost use Rattle.work_lang.specs.Workload.{Workload};
 ghost use Rattle.work_lang.specs.Reading.{State, start, first_thread_at, next_thread_at, in_thread_at, item_at, is_comment, is_printable, content_at, next, after_line, Moves, ended, reading_of, Reads};
 ghost use Rattle.work_lang.specs.Spelling.{Spells};
@@ -51,21 +52,27 @@ struct Reader {
 }
 
 impl Model for Reader {
-    ghost use Rattle.std.specs.Prelude.{length, ◌≡◌, ◌+◌};
+    ghost use Rattle.std.specs.Prelude.{length, map, ◌≡◌, ◌+◌};
     ghost use Rattle.std.specs.List.{sum_by};
+    ghost use Rattle.place_core.specs.Pieces.{script_lines};
     ghost use Rattle.work_lang.specs.Reading.{State};
 
     ghost Value = { State };
 
-    ghost view = { λ r. record { awaits = r.awaits; target = r.target; objects = r.objects; threads = r.threads.items; lines = r.lines } };
+    ghost view = { λ r. record { awaits = r.awaits; target = r.target; objects = r.objects; threads = map script_lines r.threads.items; lines = script_lines r.lines } };
 
-    ghost invariant = { λ r. r.calls ≡ sum_by length r.threads.items + length r.lines };
+    ghost invariant = { λ r. (r.calls ≡ sum_by length (map script_lines r.threads.items) + length (script_lines r.lines)) × (length r.lines ≡ length (script_lines r.lines)) };
 }
 
+/// It looks at every byte, without an early exit, so that the compiler can take many at a time.
 fn is_printable(line: &[u8]) -> bool
     ensures { result ≡ list_all is_printable line.now }
 {
-    line.iter().all(|byte| 32 <= *byte && *byte <= 126)
+    let mut printable = true;
+    for byte in line {
+        printable &= 32 <= *byte && *byte <= 126;
+    }
+    printable
 }
 
 fn is_comment(word: &[u8]) -> bool
@@ -241,7 +248,11 @@ impl Reader {
                 word: 0,
                 cause: Cause::Unclosed,
             }),
-            Awaits::Object | Awaits::Thread => Ok(Work::new(target, objects.into_items(), threads)),
+            Awaits::Object | Awaits::Thread => Ok(Work::of_parts(
+                target,
+                objects.into_items(),
+                threads,
+            )),
         }
     }
 }
@@ -249,6 +260,7 @@ impl Reader {
 /// The text line by line, up to its end or its first fault.
 fn read_lines(alloc: Global, text: &[u8]) -> Result<Work, WorkFault>
     ensures exact { Reads result (reading_of text.now) }
+    ensures long { most_bytes < length text.now → result ≡ Err (WorkFault.Text 0 0 Cause.TooLong) }
 {
     if text.len() > MOST_BYTES {
         return Err(WorkFault::Text {
@@ -273,7 +285,7 @@ fn read_lines(alloc: Global, text: &[u8]) -> Result<Work, WorkFault>
 }
 
 /// The workload that the text spells, or the first fault of the text, with its place. Where memory is wanting it is
-/// NoMemory, whatever the text.
+/// NoMemory, whatever the text, unless the text is too long.
 pub fn read_work(alloc: Global, text: &[u8]) -> Result<Work, WorkFault>
     // What is read is spelled by the text.
     ensures found { IfOk result (λ w. Spells text.now w) }
@@ -281,6 +293,8 @@ pub fn read_work(alloc: Global, text: &[u8]) -> Result<Work, WorkFault>
     ensures only { (w : Workload) → Spells text.now w → Reads result (Ok w) }
     // Which fault it is, and at which word of which line.
     ensures exact { Reads result (reading_of text.now) }
+    // A text that is too long is told as that, also where memory is wanting.
+    ensures long { most_bytes < length text.now → result ≡ Err (WorkFault.Text 0 0 Cause.TooLong) }
 {
     read_lines(alloc, text)
 }

@@ -1,6 +1,6 @@
 //! Where bytes come from and where they go.
 
-ghost use Rattle.std.specs.Prelude.{◌≡◌, ℕ, ◌<◌, ◌≤◌, List, [], ◌∷◌, length, IfOk};
+ghost use Rattle.std.specs.Prelude.{◌≡◌, ◌≢◌, ℕ, ◌<◌, ◌≤◌, List, [], ◌∷◌, length, IfOk};
 ghost use Rattle.std.specs.Io.{ReadsAtMost, WritesAtMost};
 ghost use Rattle.std.specs.Io.KnownBytes.{ReadConsumes, WriteAppends};
 ghost use Rattle.std.specs.declared.option.Option.{Option};
@@ -22,7 +22,7 @@ pub trait Source {
     ghost faults: { Self → ℕ };
 
     /// Reads bytes into the front of the buffer, and says how many; none in a buffer that isn't empty is the end.
-    /// After `Failed` the bytes left are as they were.
+    /// After `Failed` the bytes left are as they were. The count stands still where nothing failed.
     fn read(&mut self, buffer: &mut [u8]) -> Result<usize, Failed>
         ensures bound { ReadsAtMost result buffer.new }
         ensures bytes { ReadConsumes (left self.old) (left self.new) result buffer.new }
@@ -39,7 +39,7 @@ pub trait Sink {
     ghost faults: { Self → ℕ };
 
     /// Takes bytes from the front of the piece, and says how many: at least one of a piece that isn't empty.
-    /// After `Failed` nothing was taken.
+    /// After `Failed` nothing was taken. The count stands still where nothing failed.
     fn write(&mut self, piece: &[u8]) -> Result<usize, Failed>
         ensures bound { WritesAtMost result piece.now }
         ensures progress { IfOk result (λ n. 0 < length piece.now → 0 < n) }
@@ -70,13 +70,15 @@ const MOST_READ: usize = 8_388_609;
 /// How many bytes are asked for at a time.
 const READ_SIZE: usize = 65_536;
 
-/// Reads to the end, or until 8,388,609 bytes were read; the rest is left unread. Fault comes only where the
-/// source's count rose in this call; what was read before stays read.
+/// Reads to the end, or until 8,388,609 bytes were read; the rest is left unread. It stops at the first read that
+/// fails: Fault comes only where the source's count rose in this call, and at every other answer the count is as
+/// before. What was read before a Fault or NoMemory stays read.
 pub fn read_all<S: Source>(alloc: Global, source: &mut S) -> Result<Vec<u8>, ReadEnd>
     ensures bytes { IfOk result (λ v. ReadsAll S.left source.old source.new v.items) }
     ensures short { IfOk result (λ v. length v.items ≤ most_read) }
     ensures front { LosesFront S.left source.old source.new }
     ensures fault { result ≡ Err ReadEnd.Fault → Rose (S.faults source.old) (S.faults source.new) }
+    ensures same { result ≢ Err ReadEnd.Fault → S.faults source.new ≡ S.faults source.old }
     ensures later { S.faults source.old ≤ S.faults source.new }
 {
     let mut all = Vec::new(alloc);
@@ -97,8 +99,8 @@ pub fn read_all<S: Source>(alloc: Global, source: &mut S) -> Result<Vec<u8>, Rea
     Ok(all)
 }
 
-/// Writes a piece until all of it is taken. Fault comes only where the sink's count rose in this call; what was
-/// taken is then a front of the piece.
+/// Writes a piece until all of it is taken, and stops at the first write that fails. Fault comes only where the sink's
+/// count rose in this call; what was taken is then a front of the piece. At Ok the count is as before.
 pub fn write_all<K: Sink>(piece: &[u8], sink: &mut K) -> Result<(), WriteEnd>
     ensures { Writes K.taken K.faults sink.old sink.new result (piece.now ∷ []) }
 {

@@ -257,13 +257,30 @@ n {call} 3 4 {success} seq_cst => 0 Unclosed"
 }
 
 #[test]
-fn a_thread_is_the_last(rt: HostRuntime) -> Result<(), Fail> {
+fn threads_follow_threads(rt: HostRuntime) -> Result<(), Fail> {
     let rows = "object m u64 5 => 1 UnknownWord
+object => 1 UnknownWord
 n load => 1 UnknownWord
-thread => 1 Limit
-thread x => 1 Limit";
+end => 1 UnknownWord
+thread x => 2 Extra
+thread => 0 Unclosed";
     let before = format!(in rt.alloc(); "{THREAD}end\n")?;
     assert_places(&rt, rt.alloc(), &before, 6, rows)
+}
+
+#[test]
+fn two_threads_keep_their_calls(rt: HostRuntime) -> Result<(), Fail> {
+    let text = format!(in rt.alloc(); "{THREAD}n store 7\nn load\nend\n\nthread\nn load\nend\n")?;
+    let work = read_work(rt.alloc(), text.as_bytes())?;
+    assert_eq!(rt; work.threads().len(), 2);
+    for (thread, calls, first) in [(0, 2, Call::Store(7)), (1, 1, Call::Load)] {
+        let script = work.threads().get(thread).ok_or("no script")?;
+        assert_eq!(rt; script.len(), calls, "calls of {thread}");
+        if script.len() > 0 {
+            assert_eq!(rt; script.at(0).call, first, "the first call of {thread}");
+        }
+    }
+    Ok(())
 }
 
 #[test]
@@ -358,6 +375,36 @@ end x => 2 Extra";
     text.push_str("end")?;
     assert!(rt; read_work(rt.alloc(), text.as_bytes()).is_ok());
     Ok(())
+}
+
+#[test]
+fn threads_have_a_limit(rt: HostRuntime) -> Result<(), Fail> {
+    let mut text = String::from_str(rt.alloc(), HEAD)?;
+    for _ in 0..64 {
+        text.push_str("thread\nend\n")?;
+    }
+    let work = read_work(rt.alloc(), text.as_bytes())?;
+    assert_eq!(rt; work.threads().len(), 64);
+    let rows = "thread => 1 Limit
+thread x => 1 Limit
+object m u64 5 => 1 UnknownWord";
+    assert_places(&rt, rt.alloc(), &text, 131, rows)
+}
+
+/// 16 threads of 62,500 calls, and one more thread.
+#[test]
+fn calls_of_all_threads_have_a_limit(rt: HostRuntime) -> Result<(), Fail> {
+    let mut calls = String::from_str(rt.alloc(), "thread\n")?;
+    for _ in 0..62_500 {
+        calls.push_str("n load\n")?;
+    }
+    calls.push_str("end\n")?;
+    let mut text = String::from_str(rt.alloc(), "work 1\ntarget full64\nobject n u64 5\n")?;
+    for _ in 0..16 {
+        text.push_str(&calls)?;
+    }
+    text.push_str("thread\n")?;
+    assert_places(&rt, rt.alloc(), &text, 1_000_037, "n load => 1 Limit")
 }
 
 /// The workload of the texts below.

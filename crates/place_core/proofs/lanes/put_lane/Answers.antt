@@ -1,4 +1,4 @@
-use Rattle.std.proofs.Common.{arith, rules, subst, sym, ◌^◌, ◌*◌, ◌∙◌, ap, ℕ, ◌+◌, ◌-◌, ◌<◌, ◌≡◌, ◌/◌, ◌%◌}
+use Rattle.std.proofs.Common.{rules, ◌^◌, ◌*◌, ◌∙◌, ap, ℕ, ◌+◌, ◌-◌, ◌<◌, ◌≡◌, ◌/◌, ◌%◌}
 use Rattle.place_core.proofs.Blocks.{put_fits}
 use Rattle.place_core.proofs.lanes.put_lane.Goals as goal
 

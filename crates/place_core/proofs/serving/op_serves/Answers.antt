@@ -1,4 +1,3 @@
-use Rattle.std.proofs.Common.{refl, sym}
 use Rattle.place_core.proofs.ShapeFacts.{lane-at}
 use Rattle.place_core.proofs.serving.op_serves.Goals as goal
 

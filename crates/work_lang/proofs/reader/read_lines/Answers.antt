@@ -8,15 +8,15 @@ use Rattle.work_lang.proofs.Items.{line_kept}
 use Rattle.work_lang.proofs.Runs.{goes_on, stops, is_done, reading_long, reading_is}
 use Rattle.work_lang.proofs.reader.read_lines.Goals as goal
 
-pub returns-then-text-gt-MOST_BYTES : goal.returns-then-text-gt-MOST_BYTES
-returns-then-text-gt-MOST_BYTES c = record { exact = reading_long c.args.text.now (omega arith) }
+pub returns-then-text-gt-MOST_BYTES-clause-exact : goal.returns-then-text-gt-MOST_BYTES-clause-exact
+returns-then-text-gt-MOST_BYTES-clause-exact c = reading_long c.args.text.now (omega arith)
 
 pub lines-init : goal.lines-init
 lines-init c = record { kept = rw c.new-reader.ensures start_kept; so_far = rw c.new-reader.ensures (reading_is c.args.text.now (omega arith)); short = omega arith }
 
-pub returns-in-Err : goal.returns-in-Err
-returns-in-Err c =
-    record { exact = rw c.at.ensures (stops c.in-Err.fault c.lines.reader c.take_line.new.self c.lines.number c.line_at.result.0.now (lines_of c.lines.rest.now) (lines_of c.line_at.result.1.now) (reading_of c.args.text.now) c.line_at.ensures.line c.in-Err.ensures c.lines.invariant.so_far) }
+pub returns-in-Err-clause-exact : goal.returns-in-Err-clause-exact
+returns-in-Err-clause-exact c =
+    rw c.at.ensures (stops c.in-Err.fault c.lines.reader c.take_line.new.self c.lines.number c.line_at.result.0.now (lines_of c.lines.rest.now) (lines_of c.line_at.result.1.now) (reading_of c.args.text.now) c.line_at.ensures.line c.in-Err.ensures c.lines.invariant.so_far)
 
 pub lines-preserved : goal.lines-preserved
 lines-preserved c =
@@ -26,7 +26,7 @@ lines-preserved c =
       short = omega arith;
     }
 
-pub returns : goal.returns
-returns c =
+pub returns-clause-exact : goal.returns-clause-exact
+returns-clause-exact c =
     let none : length c.lines.rest.now ≡ 0 = eqb-true _ _ (sym c.is_empty.ensures ∙ c.lines-test.false) in
-    record { exact = subst (λ (r : Result Workload Fault). Reads c.finish.result r) (sym (is_done c.lines.reader c.lines.number c.lines.rest.now (reading_of c.args.text.now) none c.lines.invariant.so_far)) c.finish.ensures }
+    subst (λ (r : Result Workload Fault). Reads c.finish.result r) (sym (is_done c.lines.reader c.lines.number c.lines.rest.now (reading_of c.args.text.now) none c.lines.invariant.so_far)) c.finish.ensures

@@ -8,11 +8,11 @@ pub returns-in-Err : goal.returns-in-Err
 returns-in-Err g c = record {
   ok = tt;
   err = TookFront-stops _ (grind (arith, nat_tests)) c.writes.invariant.took c.in-Err.ensures.bytes;
-  cause = record { later = omega (arith, c.in-Err.ensures.cause.later); failed = omega (arith, c.in-Err.ensures.cause.failed) };
+  cause = record { later = omega (arith, c.in-Err.ensures.cause.later); failed = omega (arith, c.in-Err.ensures.cause.failed); same = tt };
 }
 
 pub writes-preserved : goal.writes-preserved
 writes-preserved g c = record {
   took = rw c.split_at.ensures.back (TookFront-more c.in-Ok.count c.writes.invariant.took c.in-Ok.ensures.bytes);
-  later = omega (arith, c.in-Ok.ensures.cause.later);
+  same = omega (arith, c.in-Ok.ensures.cause.same);
 }

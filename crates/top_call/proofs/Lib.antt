@@ -1,0 +1,5 @@
+pub mod Readings
+pub mod Serving
+pub mod Completing
+pub mod Answering
+pub mod TargetRows

@@ -1,0 +1,13 @@
+-- The number of each status.
+use Rattle.std.specs.Prelude.{ℕ}
+use Rattle.top_call.specs.declared.status.Status.{Status}
+use Rattle.top_call.specs.declared.status.Status.TheVariants.{Done, Refused, Usage, ReadFault, WriteFault, NoMemory}
+
+-- the number with which a process ends
+abbrev pub code_of : Status → ℕ
+code_of Done = 0
+code_of Refused = 1
+code_of Usage = 2
+code_of ReadFault = 3
+code_of WriteFault = 4
+code_of NoMemory = 5

@@ -1,0 +1,34 @@
+-- What each command writes.
+use Rattle.std.specs.Prelude.{ℕ, List, [], ◌++◌, ◌∷◌, map, Option, Some, None}
+use Rattle.target_desc.specs.declared.target.Target.{Target}
+use Rattle.target_desc.specs.Target.{builtins}
+use Rattle.target_desc.specs.Text.{description_text}
+use Rattle.work_lang.specs.Streams.{text_of}
+use Rattle.work_lang.specs.Workload.{Workload}
+use Rattle.work_lang.specs.Canonical.{canonical_text}
+use Rattle.lock_free_info.specs.PlanTable.{plan_table}
+use Rattle.top_call.specs.declared.command.Command.{Command}
+use Rattle.top_call.specs.declared.command.Command.TheVariants.{Run, Check, Plan, Targets}
+
+-- the workload on the target that is asked for, if one is
+abbrev pub on_target : Option Target → Workload → Workload
+on_target None w = w
+on_target (Some t) w = record w { target = t }
+
+-- the line of a built-in target: its name and its description
+abbrev pub target_row : List ℕ × Target → List ℕ
+target_row row = row.0 ++ 32 ∷ (description_text row.1 ++ 10 ∷ [])
+
+-- the five built-in targets
+abbrev pub targets_lines : List (List ℕ)
+targets_lines = map target_row builtins
+
+unfoldable pub targets_text : List ℕ
+targets_text = text_of targets_lines
+
+-- the text by which a command describes a workload; none where it runs it, or reads none
+abbrev pub description_of : Command → Workload → List ℕ
+description_of (Run t) w = []
+description_of Check w = canonical_text w
+description_of (Plan t) w = plan_table (on_target t w).target w.objects
+description_of Targets w = []

@@ -1,0 +1,121 @@
+//! What the commands write that describe and don't run.
+
+ghost use Rattle.std.specs.Prelude.{◌≡◌, true};
+ghost use Rattle.work_lang.specs.Streams.{Writes};
+ghost use Rattle.top_call.specs.Commands.{reads, described_by, HasTarget, IsTargetAsked};
+ghost use Rattle.top_call.specs.Texts.{on_target, description_of, targets_lines, targets_text};
+ghost use Rattle.top_call.specs.Writing.{WritesOwn, TellsUnread};
+
+use crate::command::Command;
+use crate::faults::write_fault;
+use crate::input::Unread;
+use crate::status::Status;
+use layout_plan::lay;
+use lock_free_info::write_plan;
+use op_table::NoMemory;
+use std::alloc::Global;
+use target_desc::Target;
+use work_lang::{Sink, Work, WriteEnd, print_work, write_all};
+
+/// The workload on the target that is asked for, if one is.
+pub(crate) fn on_target(work: Work, target: Option<Target>) -> Work
+    requires { IsTargetAsked target }
+    ensures { result ≡ on_target target work }
+{
+    match target {
+        None => work,
+        Some(target) => work.with_target(target),
+    }
+}
+
+/// Writes the canonical text of a workload.
+#[tactic(auto, unfolding(work_lang::specs::Canonical::canonical_text))]
+fn check_work<K: Sink>(work: &Work, sink: &mut K) -> Status
+    ensures { WritesOwn K.taken K.faults sink.old sink.new (description_of Command.Check work.now) result }
+{
+    match print_work(work, sink) {
+        Ok(()) => Status::Done,
+        Err(WriteEnd::Fault) => Status::WriteFault,
+    }
+}
+
+/// Writes the plan table of a workload.
+#[tactic(auto, unfolding(lock_free_info::specs::PlanTable::plan_table))]
+fn plan_work<K: Sink>(alloc: Global, work: &Work, sink: &mut K) -> Status
+    ensures { WritesOwn K.taken K.faults sink.old sink.new (description_of (Command.Plan None) work.now) result }
+{
+    match lay(alloc, work.target(), work.objects()) {
+        Err(NoMemory) => Status::NoMemory,
+        Ok(shape) => match write_plan(work, &shape, sink) {
+            Ok(()) => Status::Done,
+            Err(WriteEnd::Fault) => Status::WriteFault,
+        },
+    }
+}
+
+/// Writes the command's description of a workload.
+pub(crate) fn describe_work<K: Sink>(
+    alloc: Global,
+    command: Command,
+    work: Work,
+    sink: &mut K,
+) -> Status
+    requires describes { described_by command ≡ Ok command }
+    requires reads { reads command ≡ true }
+    requires target { HasTarget command }
+    ensures { WritesOwn K.taken K.faults sink.old sink.new (description_of command work) result }
+{
+    match command {
+        Command::Check => check_work(&work, sink),
+        Command::Plan { target } => plan_work(alloc, &on_target(work, target), sink),
+        Command::Run { .. } | Command::Targets => unreachable!(),
+    }
+}
+
+/// Writes each built-in target as its name and its description.
+fn write_targets<K: Sink>(sink: &mut K) -> Result<(), WriteEnd>
+    ensures { Writes K.taken K.faults sink.old sink.new result targets_lines }
+{
+    match write_all(b"full64 64 apart swap+add+bits+order 67 locks\n", sink) {
+        Ok(()) => {}
+        Err(end) => return Err(end),
+    }
+    match write_all(b"word64 64 packed swap+add+bits+order 67 locks\n", sink) {
+        Ok(()) => {}
+        Err(end) => return Err(end),
+    }
+    match write_all(b"word32 32 packed swap+add+bits+order 67 locks\n", sink) {
+        Ok(()) => {}
+        Err(end) => return Err(end),
+    }
+    match write_all(b"cas32 32 packed none 67 locks\n", sink) {
+        Ok(()) => {}
+        Err(end) => return Err(end),
+    }
+    write_all(b"section32 32 apart none 1 section\n", sink)
+}
+
+/// Writes the text of the five built-in targets.
+#[tactic(auto, unfolding(crate::specs::Texts::targets_text))]
+pub(crate) fn tell_targets<K: Sink>(sink: &mut K) -> Status
+    ensures { WritesOwn K.taken K.faults sink.old sink.new targets_text result }
+{
+    match write_targets(sink) {
+        Ok(()) => Status::Done,
+        Err(WriteEnd::Fault) => Status::WriteFault,
+    }
+}
+
+/// Tells why there is no workload: the fault of a text is written as one line.
+pub(crate) fn tell_unread<K: Sink>(unread: Unread, sink: &mut K) -> Status
+    ensures { TellsUnread K.taken K.faults sink.old sink.new unread result }
+{
+    match unread {
+        Unread::Source => Status::ReadFault,
+        Unread::NoMemory => Status::NoMemory,
+        Unread::Text { line, word, cause } => match write_fault(line, word, cause, sink) {
+            Ok(()) => Status::Refused,
+            Err(WriteEnd::Fault) => Status::WriteFault,
+        },
+    }
+}

@@ -1,0 +1,44 @@
+//! Reading a workload from a source.
+
+ghost use Rattle.std.specs.Prelude.{◌≡◌};
+ghost use Rattle.work_lang.specs.Streams.{LosesFront};
+ghost use Rattle.top_call.specs.Inputs.{ReadsText, ReadsInput};
+
+use std::alloc::Global;
+use work_lang::{Cause, ReadEnd, Source, Work, WorkFault, read_all, read_work};
+
+/// Why there is no workload.
+#[derive(Clone, Copy, Debug, PartialEq, Eq)]
+pub(crate) enum Unread {
+    /// The source failed.
+    Source,
+    /// The text has this fault at that line and word.
+    Text { line: u32, word: u32, cause: Cause },
+    /// Out of memory.
+    NoMemory,
+}
+
+/// The workload of a text, or why there is none.
+fn work_of(alloc: Global, text: &[u8]) -> Result<Work, Unread>
+    ensures { ReadsText text.now result }
+{
+    match read_work(alloc, text) {
+        Ok(work) => Ok(work),
+        Err(WorkFault::Text { line, word, cause }) => Err(Unread::Text { line, word, cause }),
+        Err(WorkFault::NoMemory) => Err(Unread::NoMemory),
+    }
+}
+
+/// Reads all that the source has left, or 8,388,609 bytes of it, and the workload that this text spells. The text is
+/// given back before it returns.
+pub(crate) fn read_input<S: Source>(alloc: Global, source: &mut S) -> Result<Work, Unread>
+    ensures read { ReadsInput S.left S.faults source.old source.new result }
+    ensures front { LosesFront S.left source.old source.new }
+{
+    let text = match read_all(alloc, source) {
+        Ok(text) => text,
+        Err(ReadEnd::Fault) => return Err(Unread::Source),
+        Err(ReadEnd::NoMemory) => return Err(Unread::NoMemory),
+    };
+    work_of(alloc, &text)
+}

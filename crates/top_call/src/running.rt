@@ -1,0 +1,94 @@
+//! Running a workload on an arena, and its report.
+
+ghost use Rattle.std.specs.Prelude.{◌≡◌, map, IfOk};
+ghost use Rattle.place_core.specs.Runs.{replies_by, replies_from};
+ghost use Rattle.work_lang.specs.Streams.{Writes};
+ghost use Rattle.report_text.specs.Report.{report_lines, items_of};
+ghost use Rattle.top_call.specs.Running.{IsRunOf, RunsWork};
+
+use crate::outcome::{Ended, Outcome};
+use crate::status::Status;
+use layout_plan::lay;
+use op_table::NoMemory;
+use place_core::{Gate, Replies};
+use report_text::report;
+use std::alloc::Global;
+use std::sync::Wait;
+use std::thread::Threads;
+use whole_run::run_whole;
+use work_lang::{Sink, Work, WriteEnd};
+
+/// A run that ended, the replies of each thread, and those of the last loads.
+#[derive(Drop)]
+struct Ran {
+    ended: Ended,
+    replies: Vec<Replies>,
+    last: Replies,
+}
+
+/// Lays the objects of a workload, and runs its scripts on an arena of that shape. The scripts are not copied: the run
+/// takes them, and the workload gets them back.
+fn run_scripts<R: Threads + Wait + Sync, G: Gate>(
+    rt: &R,
+    alloc: Global,
+    work: Work,
+    gate: &G,
+) -> Result<Ran, NoMemory>
+    ensures run { IfOk result (λ r. IsRunOf work r.ended) }
+    ensures replies { IfOk result (λ r. map items_of r.replies.items ≡ replies_from r.ended.root.seen 1 work.threads) }
+    ensures last { IfOk result (λ r. r.last.items ≡ replies_by r.ended.root.seen 0) }
+{
+    let shape = lay(alloc, work.target(), work.objects())?;
+    let (target, objects, scripts) = work.into_parts();
+    let ran = run_whole(rt, alloc, shape, scripts, gate)?;
+    Ok(Ran {
+        ended: Ended {
+            arena: ran.arena,
+            root: ran.root,
+            work: Work::of_parts(target, objects, ran.scripts),
+        },
+        replies: ran.replies,
+        last: ran.last,
+    })
+}
+
+/// Writes the report of a run.
+fn write_report<K: Sink>(ran: &Ran, sink: &mut K) -> Result<(), WriteEnd>
+    requires run { IsRunOf ran.now.ended.work ran.now.ended }
+    requires replies { map items_of ran.now.replies.items ≡ replies_from ran.now.ended.root.seen 1 ran.now.ended.work.threads }
+    requires last { ran.now.last.items ≡ replies_by ran.now.ended.root.seen 0 }
+    ensures { Writes K.taken K.faults sink.old sink.new result (report_lines ran.now.ended.work ran.now.ended.root.seen) }
+{
+    let work = &ran.ended.work;
+    // Only for its clause, on what the type of a workload keeps.
+    let _target = work.target();
+    report(work, &ran.replies, &ran.last, sink)
+}
+
+/// Runs a workload, a thread for each script, and writes the report of the one history of its arena.
+pub(crate) fn run_work<R: Threads + Wait + Sync, K: Sink, G: Gate>(
+    rt: &R,
+    alloc: Global,
+    work: Work,
+    sink: &mut K,
+    gate: &G,
+) -> Outcome
+    ensures { RunsWork K.taken K.faults sink.old sink.new work result.status result.ended }
+{
+    match run_scripts(rt, alloc, work, gate) {
+        Err(NoMemory) => Outcome {
+            status: Status::NoMemory,
+            ended: None,
+        },
+        Ok(ran) => match write_report(&ran, sink) {
+            Ok(()) => Outcome {
+                status: Status::Done,
+                ended: Some(ran.ended),
+            },
+            Err(WriteEnd::Fault) => Outcome {
+                status: Status::WriteFault,
+                ended: Some(ran.ended),
+            },
+        },
+    }
+}

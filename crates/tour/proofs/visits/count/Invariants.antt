@@ -1,0 +1,5 @@
+use Rattle.tour.specs.Tour.{IsReady}
+use Rattle.tour.proofs.visits.count.Given as goal
+
+abbrev pub invariant-loop : goal.invariant-loop
+invariant-loop g l = IsReady l.arena l.pass

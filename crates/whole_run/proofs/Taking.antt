@@ -1,0 +1,75 @@
+-- Passes that are taken back one after another.
+use Rattle.std.proofs.Common.{◌≡◌, ℕ, ◌+◌, List, [], ◌∷◌, ◌++◌, length, map, ap, sym, ◌∙◌, subst, arith, append_assoc, length-append}
+use Rattle.std.proofs.lemmas.List.{length-map, map-append}
+use Rattle.place_core.specs.declared.entry.Entry.{Entry}
+use Rattle.place_core.specs.declared.script.Line.{Line}
+use Rattle.place_core.specs.declared.script.Piece.{Piece}
+use Rattle.place_core.specs.declared.shape.Shape.{Shape}
+use Rattle.place_core.specs.Cells.{entries_by}
+use Rattle.place_core.specs.RepliesState.{RepliesState}
+use Rattle.place_core.specs.Runs.{asked_by}
+use Rattle.seat_views.specs.declared.view.Ended.{Ended}
+use Rattle.seat_views.specs.declared.view.Item.{Item}
+use Rattle.seat_views.specs.Paths.{ArePaths}
+use Rattle.seat_views.specs.States.{ArenaState, PassState, TakesBack}
+use Rattle.seat_views.specs.Makes.{EarnsOwn}
+use Rattle.runner.specs.declared.worker.Worker.{Worker}
+use Rattle.whole_run.specs.declared.taken.Taken.{Taken}
+use Rattle.place_core.specs.Pieces.{script_lines}
+use Rattle.whole_run.specs.Stages.{IsDone, AreDone, OwnEarned, IsBack, AreBack, HasBack, HasRoom}
+use Rattle.whole_run.proofs.Threads.{AreBack-later, AreBack-more}
+
+-- what was taken back of all workers, where these are left
+pub record TakesSoFar (a : ArenaState) (all rest : List Worker) (t : Taken) (p : PassState) : Type 0 where
+  pub room : HasRoom t (length rest)
+  pub scripts : t.scripts.items ++ map (λ (w : Worker). w.script) rest ≡ map (λ (w : Worker). w.script) all
+  pub left : AreDone a (length t.scripts.items + 1) rest
+  pub back : HasBack a (length all) (map script_lines t.scripts.items) t.replies.items p
+
+-- ---- one more
+
+earned_alone : (S : Shape) (i : ℕ) (more seen : List Entry) → seen ≡ [] ++ more → EarnsOwn S i [] more → OwnEarned S i seen
+earned_alone S i more seen is earned = subst (OwnEarned S i) (sym is) earned
+
+IsDone-back : (a : ArenaState) (i : ℕ) (w : Worker) (p q : PassState) → IsDone a i w → TakesBack p w.pass q
+    → IsBack a.shape q.seen i (script_lines w.script) w.replies (record { number = w.pass.number; entries = w.pass.mine; trail = w.pass.trail })
+IsDone-back a i w p q m t =
+    let e = w.pass in
+    let number : e.number ≡ i = ap (λ (r : PassState). r.number) m.made.rest in
+    let trail : m.steps ≡ e.trail = sym (ap (λ (r : PassState). r.trail) m.made.rest) in record {
+      number = number;
+      count = m.made.count;
+      entries = ap (λ (r : PassState). r.mine) m.made.rest;
+      paths = subst (λ (l : List Item). ArePaths a.shape (asked_by (script_lines w.script)) w.replies.items l) trail m.paths;
+      seen = e.seen;
+      front = t.other;
+      own = ap (entries_by e.seen) (sym number) ∙ m.made.kept.own;
+      earned = earned_alone a.shape i m.made.more e.seen m.made.seen m.made.earned;
+    }
+
+HasBack-more : (a : ArenaState) (given j : ℕ) (scripts : List (List Line)) (replies : List RepliesState) (w : Worker) (p q : PassState) → HasBack a given scripts replies p → j ≡ 1 + length scripts → IsDone a j w → TakesBack p w.pass q
+    → HasBack a given (scripts ++ script_lines w.script ∷ []) (replies ++ w.replies ∷ []) q
+HasBack-more a given j scripts replies w p q h at done t =
+    let d : Ended = record { number = w.pass.number; entries = w.pass.mine; trail = w.pass.trail } in
+    let ended : p.ended ++ d ∷ [] ≡ q.ended = sym (ap (λ (r : PassState). r.ended) t.rest) in
+    let back = AreBack-more a.shape q.seen 1 j scripts (script_lines w.script) replies w.replies p.ended d (AreBack-later a.shape p.seen q.seen 1 scripts replies p.ended t.old h.back) at (IsDone-back a j w p q done t) in
+    record {
+      now = t.rest ∙ (λ k. record (h.now k) { seen = q.seen; ended = ended k });
+      kept = t.kept;
+      back = subst (AreBack a.shape q.seen 1 (scripts ++ script_lines w.script ∷ []) (replies ++ w.replies ∷ [])) ended back;
+    }
+
+pub takes_more : (a : ArenaState) (all rest left : List Worker) (w : Worker) (t u : Taken) (p q : PassState) → TakesSoFar a all rest t p → rest ≡ w ∷ left → TakesBack p w.pass q
+    → u.scripts.items ≡ t.scripts.items ++ w.script ∷ [] → u.replies.items ≡ t.replies.items ++ w.replies ∷ [] → ((n : ℕ) → HasRoom t (n + 1) → HasRoom u n) → TakesSoFar a all left u q
+takes_more a all rest left w t u p q h cut took scripts replies room =
+    let both : AreDone a (length t.scripts.items + 1) (w ∷ left) = subst (AreDone a (length t.scripts.items + 1)) cut h.left in
+    let back = HasBack-more a (length all) (length t.scripts.items + 1) (map script_lines t.scripts.items) t.replies.items w p q h.back (omega (arith, length-map t.scripts.items script_lines)) both.0 took in
+    record {
+      room = let more : length rest ≡ length left + 1 = ap length cut ∙ omega arith in room (length left) (subst (HasRoom t) more h.room);
+      scripts =
+          ap (λ (l : List (List Piece)). l ++ map (λ (v : Worker). v.script) left) scripts
+          ∙ (append_assoc t.scripts.items (w.script ∷ []) (map (λ (v : Worker). v.script) left)
+          ∙ (ap (λ (l : List Worker). t.scripts.items ++ map (λ (v : Worker). v.script) l) (sym cut) ∙ h.scripts));
+      left = subst (λ n. AreDone a n left) (omega (arith, ap length scripts, length-append t.scripts.items (w.script ∷ []))) both.1;
+      back = subst (λ (x : List (List Line) × List RepliesState). HasBack a (length all) x.0 x.1 q) (λ k. (sym (ap (map script_lines) scripts ∙ map-append script_lines t.scripts.items (w.script ∷ [])) k, sym replies k)) back;
+    }

@@ -1,0 +1,93 @@
+-- The passes of a whole run: as they are given, after their scripts were run, and once the root took them back.
+use Rattle.std.specs.Prelude.{◌≡◌, ℕ, ◌+◌, ◌≤◌, List, [], ◌∷◌, length, vec_len, vec_capacity}
+use mathlib.Core.List.{IsPrefix}
+use Rattle.place_core.specs.declared.entry.Entry.{Entry}
+use Rattle.place_core.specs.declared.script.Line.{Line}
+use Rattle.place_core.specs.declared.shape.Shape.{Shape}
+use Rattle.place_core.specs.Histories.{Each}
+use Rattle.place_core.specs.Cells.{entries_by}
+use Rattle.place_core.specs.Earned.{IsEarned, IsSpuriousEntry}
+use Rattle.place_core.specs.RepliesState.{RepliesState}
+use Rattle.place_core.specs.Runs.{asked_by}
+use Rattle.seat_views.specs.declared.view.Ended.{Ended}
+use Rattle.seat_views.specs.States.{ArenaState, PassState, IsKept, first_pass}
+use Rattle.seat_views.specs.Makes.{entries_with, MakesCalls}
+use Rattle.seat_views.specs.Paths.{ArePaths}
+use Rattle.place_core.specs.Pieces.{script_lines}
+use Rattle.runner.specs.declared.worker.Worker.{Worker}
+use Rattle.whole_run.specs.declared.taken.Taken.{Taken}
+
+-- ---- passes given
+
+-- the root of a new arena after it gave this many numbers
+abbrev pub root_of : ArenaState → ℕ → PassState
+root_of a given = record (first_pass a) { given = given }
+
+-- the pass of number i of a new arena, before its first step
+abbrev pub pass_of : ArenaState → ℕ → PassState
+pass_of a i = record (first_pass a) { number = i }
+
+-- the worker has the pass of number i, no replies, and room for all of its script's
+pub record IsManned (a : ArenaState) (i : ℕ) (w : Worker) : Type 0 where
+  pub pass : w.pass ≡ pass_of a i
+  pub empty : w.replies.items ≡ []
+  pub room : length (script_lines w.script) ≤ w.replies.spare
+
+-- of each worker in order, the first of them of number i
+abbrev pub AreManned : ArenaState → ℕ → List Worker → Type 0
+AreManned a i [] = Unit {0}
+AreManned a i (w ∷ ws) = IsManned a i w × AreManned a (i + 1) ws
+
+-- the root of a new arena gave passes to these workers, in order
+pub record HasManned (a : ArenaState) (ws : List Worker) (p : PassState) : Type 0 where
+  pub root : p ≡ root_of a (length ws)
+  pub kept : IsKept p
+  pub manned : AreManned a 1 ws
+
+-- ---- scripts run
+
+-- the worker's pass, of number i, made its script's calls, with the worker's replies, and nothing else
+abbrev pub IsDone : ArenaState → ℕ → Worker → Type 0
+IsDone a i w = MakesCalls a.shape (asked_by (script_lines w.script)) (pass_of a i) w.replies.items w.pass
+
+-- of each worker in order, the first of them of number i
+abbrev pub AreDone : ArenaState → ℕ → List Worker → Type 0
+AreDone a i [] = Unit {0}
+AreDone a i (w ∷ ws) = IsDone a i w × AreDone a (i + 1) ws
+
+-- ---- passes taken back
+
+-- the spurious failures of caller c in the history are earned
+abbrev pub OwnEarned : Shape → ℕ → List Entry → Type 0
+OwnEarned S c H = Each (λ G x. x.caller ≡ c → IsSpuriousEntry x → IsEarned S G x) H
+
+-- what the root keeps of the pass of number i: its entries are the script's calls with the replies, by their paths; what
+-- the pass had seen begins what the root has seen, and its own failures there were earned
+pub record IsBack (S : Shape) (H : List Entry) (i : ℕ) (script : List Line) (replies : RepliesState) (d : Ended) : Type 0 where
+  pub number : d.number ≡ i
+  pub count : length replies.items ≡ length (asked_by script)
+  pub entries : d.entries ≡ entries_with i (asked_by script) replies.items
+  pub paths : ArePaths S (asked_by script) replies.items d.trail
+  pub seen : List Entry
+  pub front : IsPrefix seen H
+  pub own : entries_by seen i ≡ d.entries
+  pub earned : OwnEarned S i seen
+
+-- of each script in order, the first of them of number i
+abbrev pub AreBack : Shape → List Entry → ℕ → List (List Line) → List RepliesState → List Ended → Type 0
+AreBack S H i [] [] [] = Unit {0}
+AreBack S H i [] [] (d ∷ ds) = ⊥
+AreBack S H i [] (r ∷ rs) ds = ⊥
+AreBack S H i (script ∷ scripts) [] ds = ⊥
+AreBack S H i (script ∷ scripts) (r ∷ rs) [] = ⊥
+AreBack S H i (script ∷ scripts) (r ∷ rs) (d ∷ ds) = IsBack S H i script r d × AreBack S H (i + 1) scripts rs ds
+
+-- the root of a new arena, which gave this many numbers, and took the passes of these scripts back, in order
+pub record HasBack (a : ArenaState) (given : ℕ) (scripts : List (List Line)) (replies : List RepliesState) (p : PassState) : Type 0 where
+  pub now : p ≡ record (root_of a given) { seen = p.seen; ended = p.ended }
+  pub kept : IsKept p
+  pub back : AreBack a.shape p.seen 1 scripts replies p.ended
+
+-- there is room for this many scripts and replies more
+abbrev pub HasRoom : Taken → ℕ → Type 0
+HasRoom t n = (vec_len t.scripts + n ≤ vec_capacity t.scripts) × (vec_len t.replies + n ≤ vec_capacity t.replies)
