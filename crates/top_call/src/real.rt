@@ -9,7 +9,7 @@ use std::alloc::Global;
 use std::io::{BufWriter, Read, Write};
 use work_lang::{Failed, Sink, Source};
 
-/// A reader as a source. It tells no bytes.
+/// A reader as a source. It tells the bytes that the reader tells: those of a slice, and none of standard input.
 #[derive(Drop)]
 pub struct ReadSource<R: Read + Drop> {
     reader: R,
@@ -45,7 +45,8 @@ impl<R: Read + Drop> Source for ReadSource<R> {
 /// How many bytes are handed on at a time.
 const BUFFER_SIZE: usize = 65_536;
 
-/// A writer as a sink, behind a buffer of 64 KiB. It tells no bytes.
+/// A writer as a sink, behind a buffer of 64 KiB. It tells the bytes that the writer tells, with those of the buffer: those
+/// of a vector, and none of standard output.
 #[derive(Drop)]
 pub struct WriteSink<W: Write + Drop> {
     writer: BufWriter<W>,
