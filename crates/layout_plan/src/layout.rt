@@ -1,6 +1,6 @@
 //! The shape of declared objects on a target.
 
-ghost use Rattle.std.specs.Prelude.{◌≡◌, ◌↔◌, ◌≤◌, ◌*◌, true, length, IsTrue, IfOk};
+ghost use Rattle.std.specs.Prelude.{◌≡◌, ◌↔◌, ◌≤◌, ◌*◌, true, length, IsTrue, IfOk, IfErr, ◌<◌};
 ghost use Rattle.target_desc.specs.Target.{IsTarget};
 ghost use Rattle.place_core.specs.Shapes.{IsShape};
 ghost use Rattle.place_core.specs.DeclaredObjects.{IsDeclared};
@@ -118,13 +118,15 @@ pub fn are_declared(objects: &[Declared]) -> bool
     true
 }
 
-/// The shape of objects on a target, which is a valid one. It takes as many steps as there are objects.
+/// The shape of objects on a target, which is a valid one. It takes as many steps as there are objects, and no memory
+/// where there are none.
 pub fn lay(alloc: Global, target: &Target, objects: &[Declared]) -> Result<Shape, NoMemory>
     requires target { IsTarget target.now }
     requires objects { AreDeclared objects.now }
     requires most { length objects.now ≤ 65536 }
     ensures layout { IfOk result (λ s. s ≡ shape_of target.now objects.now) }
     ensures valid { IfOk result (λ s. IsShape s) }
+    ensures some { IfErr result (λ _. 0 < length objects.now) }
 {
     let mut laid = Vec::new(alloc);
     let mut after = 0;

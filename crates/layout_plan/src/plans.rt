@@ -11,6 +11,7 @@ ghost use Rattle.layout_plan.specs.Plans.{is_sole_at, path_with};
 use op_table::{Call, StepSet};
 use place_core::{Object, Path, Place, Shape, WordOp, has_step, is_sole, op_for};
 
+#[inline(always)]
 fn path_by(steps: StepSet, op: Option<WordOp>) -> Path
     ensures { result ≡ path_by steps op }
 {
@@ -27,6 +28,7 @@ fn path_by(steps: StepSet, op: Option<WordOp>) -> Path
 }
 
 /// How a call on an object is made, where it is known whether its lane is alone in its word. It searches nothing.
+#[inline(always)]
 pub fn path_with(shape: &Shape, object: &Object, sole: bool, call: &Call) -> Path
     requires placed { IsPlaced shape.now object.now.kind object.now.place }
     requires fits { CallFits object.now.kind call.now }
@@ -54,6 +56,7 @@ pub fn is_sole_at(shape: &Shape, place: Place) -> bool
 /// How a call on an object is made: by one step where there is one that makes it on the object's lane and the target
 /// has it, else by a loop on the lane, and under a lock where the object has parts. It looks at every object of the
 /// shape; `Plans` doesn't.
+#[inline(always)]
 pub fn plan(shape: &Shape, object: u32, call: &Call) -> Path
     requires shape { IsShape shape.now }
     requires object { object < length shape.now.objects }

@@ -47,6 +47,7 @@ impl Plans {
     }
 
     /// What `plan` says of a call, in a few steps, for the shape that the plans were made for.
+    #[inline(always)]
     pub fn plan(&self, shape: &Shape, object: u32, call: &Call) -> Path
         requires shape { IsShape shape.now }
         requires plans { ArePlansOf self.now shape.now }

@@ -1,5 +1,5 @@
 -- The words of kinds, operations and orders are read as what they were printed of.
-use Rattle.std.proofs.Common.{◌≡◌, ◌≢◌, ◌⊎◌, Bool, true, false, ◌&&◌, cond, ℕ, ◌<◌, ◌≤◌, List, [], ◌∷◌, ◌++◌, length, Option, Some, None, is_some, codes, inl, inr, refl, sym, ap, subst, ◌∙◌, true≢false}
+use Rattle.std.proofs.Common.{◌≡◌, ◌≢◌, ◌⊎◌, Bool, true, false, ℕ, List, [], ◌∷◌, ◌++◌, Option, Some, None, codes, inl, inr, refl, sym, subst, true≢false}
 use Rattle.std.specs.List.{AllByRecursion}
 use Rattle.std.specs.Str.{bytes_eq}
 use Rattle.std.proofs.lemmas.Slice.Eq.{bytes_eq-Decides}
@@ -8,15 +8,11 @@ use Rattle.op_table.specs.declared.kind.Width.TheVariants.{W1, W8, W16, W32, W64
 use Rattle.op_table.specs.declared.kind.Class.{Class}
 use Rattle.op_table.specs.declared.kind.Class.TheVariants as class
 use Rattle.op_table.specs.declared.kind.Kind.{Kind}
-use Rattle.op_table.specs.declared.call.Call.{Call}
 use Rattle.op_table.specs.declared.call.Call.TheVariants as call
-use Rattle.op_table.specs.declared.order.Order.{Order}
 use Rattle.op_table.specs.declared.order.Order.TheVariants.{Relaxed, Acquire, Release, AcqRel, SeqCst}
-use Rattle.op_table.specs.declared.words.Operation.{Operation}
 use Rattle.op_table.specs.declared.words.Operation.TheVariants.{Load, Store, Swap, CompareExchange, CompareExchangeWeak, FetchAdd, Add, FetchSub, Sub, FetchAnd, And, FetchNand, FetchOr, Or, FetchXor, Xor, FetchMax, FetchMin, FetchNot, Not, FetchNeg, Neg, BitSet, BitClear, BitToggle, FetchByteAdd, FetchByteSub}
 use Rattle.op_table.specs.Kind.{IsKind, IsOfClass}
-use Rattle.op_table.specs.Call.{CallFits}
-use Rattle.op_table.specs.Words.{among, rows_by, integer, kind_word, kinds, kind_rows, kind_of_word, operation_word, operations_of, operation_rows, operation_of_word, has_operation, loud_or_quiet, sum_operation, operation_of}
+use Rattle.op_table.specs.Words.{among, rows_by, integer, kind_word, kinds, kind_of_word, operation_word, operations_of, operation_of_word, has_operation, loud_or_quiet, sum_operation}
 use Rattle.op_table.specs.Orders.{order_word, orders, order_of_word}
 use Rattle.op_table.specs.Laws.{OperationWordIsRead, OperationHasOneWord, CallHasOperation, OrderWordIsRead, OrderHasOneWord, KindWordIsRead, KindHasItsWords}
 use Rattle.op_table.proofs.Tables.{among_rows_by, among_append, among_all}

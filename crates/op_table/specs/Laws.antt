@@ -9,6 +9,7 @@ use Rattle.op_table.specs.declared.words.Operation.{Operation}
 use Rattle.op_table.specs.Kind.{values_of, IsKind}
 use Rattle.op_table.specs.Value.{parsed_value, value_text}
 use Rattle.op_table.specs.Call.{after_of, answer_of, CallFits, ReplyFits}
+use Rattle.op_table.specs.CallTests.{is_load, expects_another, has_failed, does_write}
 use Rattle.op_table.specs.Words.{integer, kind_word, kind_of_word, operation_word, operation_of_word, has_operation, operation_of}
 use Rattle.op_table.specs.Orders.{order_word, order_of_word}
 
@@ -45,6 +46,18 @@ AfterFits = (kind : Kind) (call : Call) (v : ℕ) → IsKind kind → CallFits k
 -- a call replies with a value of the kind
 abbrev pub AnswerFits : Type 0
 AnswerFits = (kind : Kind) (call : Call) (v : ℕ) → IsKind kind → CallFits kind call → v < values_of kind → ReplyFits kind (answer_of kind call v)
+
+-- a load keeps the value
+abbrev pub LoadKeepsValue : Type 0
+LoadKeepsValue = (kind : Kind) (call : Call) (v : ℕ) → is_load call ≡ true → after_of kind call v ≡ v
+
+-- only an exchange that expects another value fails
+abbrev pub OnlyExchangesFail : Type 0
+OnlyExchangesFail = (kind : Kind) (call : Call) (v : ℕ) → has_failed (answer_of kind call v) ≡ true → expects_another call v ≡ true
+
+-- a call that stores nothing keeps the value
+abbrev pub UnwrittenKeepsValue : Type 0
+UnwrittenKeepsValue = (kind : Kind) (call : Call) (v : ℕ) → does_write call (answer_of kind call v) ≡ false → after_of kind call v ≡ v
 
 -- the word of an operation is read as that operation
 abbrev pub OperationWordIsRead : Type 0

@@ -4,7 +4,7 @@ use Rattle.std.specs.Prelude.{ℕ, List, [], ◌∷◌, Bool, true, false, ◌&&
 use Rattle.op_table.specs.declared.order.Order.{Order}
 use Rattle.op_table.specs.declared.order.Order.TheVariants.{Relaxed, Acquire, Release, AcqRel, SeqCst}
 use Rattle.op_table.specs.declared.call.Call.{Call}
-use Rattle.op_table.specs.declared.call.Call.TheVariants.{Load, Store, Swap, Cas, CasWeak, Add, Sub, And, Nand, Or, Xor, Max, Min, Not, Neg, BitSet, BitClear, BitToggle}
+use Rattle.op_table.specs.declared.call.Call.TheVariants.{Load, Store, Cas, CasWeak}
 use Rattle.op_table.specs.Words.{among, rows_by}
 
 abbrev pub order_word : Order → List ℕ
@@ -45,19 +45,6 @@ is_failure_order (Some failure) = is_load_order failure
 abbrev pub order_fits : Call → Order → Option Order → Bool
 order_fits Load success failure = is_load_order success && is_none failure
 order_fits (Store a) success failure = is_store_order success && is_none failure
-order_fits (Swap a) success failure = is_none failure
 order_fits (Cas e n) success failure = is_failure_order failure
 order_fits (CasWeak e n) success failure = is_failure_order failure
-order_fits (Add a q) success failure = is_none failure
-order_fits (Sub a q) success failure = is_none failure
-order_fits (And a q) success failure = is_none failure
-order_fits (Nand a) success failure = is_none failure
-order_fits (Or a q) success failure = is_none failure
-order_fits (Xor a q) success failure = is_none failure
-order_fits (Max a) success failure = is_none failure
-order_fits (Min a) success failure = is_none failure
-order_fits (Not q) success failure = is_none failure
-order_fits (Neg q) success failure = is_none failure
-order_fits (BitSet p) success failure = is_none failure
-order_fits (BitClear p) success failure = is_none failure
-order_fits (BitToggle p) success failure = is_none failure
+order_fits _ success failure = is_none failure

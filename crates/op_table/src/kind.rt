@@ -3,8 +3,11 @@
 ghost use Rattle.std.specs.Prelude.{◌≡◌, ◌↔◌, IsTrue};
 ghost use Rattle.op_table.specs.Kind.{bits_of, bytes_of, IsKind};
 
+use thiserror::Error;
+
 /// Memory was wanting. The one value for it in all crates.
-#[derive(Clone, Copy, Debug, PartialEq, Eq)]
+#[derive(Clone, Copy, Debug, PartialEq, Eq, Error)]
+#[error("out of memory")]
 pub struct NoMemory;
 
 /// How many bits a value has.

@@ -1,6 +1,6 @@
 //! Laws of texts, words and the table of operations, for callers to cite.
 
-ghost use Rattle.op_table.specs.Laws.{PrintedIsRead, ValueHasOneText, ReadIsValue, ValueTextIsShort, AfterFits, AnswerFits, OperationWordIsRead, OperationHasOneWord, CallHasOperation, OrderWordIsRead, OrderHasOneWord, KindWordIsRead, KindHasItsWords, KindWordIsShort, OperationWordIsShort, OrderWordIsShort};
+ghost use Rattle.op_table.specs.Laws.{PrintedIsRead, ValueHasOneText, ReadIsValue, ValueTextIsShort, AfterFits, AnswerFits, LoadKeepsValue, OnlyExchangesFail, UnwrittenKeepsValue, OperationWordIsRead, OperationHasOneWord, CallHasOperation, OrderWordIsRead, OrderHasOneWord, KindWordIsRead, KindHasItsWords, KindWordIsShort, OperationWordIsShort, OrderWordIsShort};
 
 /// What `push_value` prints of a value is read again as that value.
 pub fn printed_is_read()
@@ -30,6 +30,21 @@ pub fn after_fits()
 /// A call that a kind has replies with a value of the kind, where it replies with one.
 pub fn answer_fits()
     ensures { AnswerFits }
+{}
+
+/// A load keeps the value.
+pub fn load_keeps_value()
+    ensures { LoadKeepsValue }
+{}
+
+/// By the table only an exchange that expects another value fails.
+pub fn only_exchanges_fail()
+    ensures { OnlyExchangesFail }
+{}
+
+/// A call that stores nothing, by its kind and its reply, keeps the value.
+pub fn unwritten_keeps_value()
+    ensures { UnwrittenKeepsValue }
 {}
 
 /// The word of an operation is read as that operation.

@@ -2,6 +2,7 @@
 #![tactic(auto)]
 
 mod call;
+mod call_tests;
 mod hex;
 mod kind;
 pub mod laws;
@@ -14,6 +15,7 @@ mod value;
 mod words;
 
 pub use call::{Call, Reply};
+pub use call_tests::{does_write, expects_another, is_exchange, is_load, is_weak};
 pub use kind::{Class, Kind, NoMemory, Width, bits, bytes, kind_ok};
 pub use line_buf::LineBuf;
 pub use operations::{after, answer, call_fits};
@@ -22,7 +24,7 @@ pub use orders::{order_fits, order_of_word, order_word};
 pub use value::{ValueFault, read_value};
 pub use words::{
     Operation, call_word, has_operation, kind_of_word, kind_word, operation_of, operation_of_word,
-    operation_word,
+    operation_word, operations_of,
 };
 
 #[cfg(test)]

@@ -78,8 +78,13 @@ impl LineBuf {
         requires { length self.old + length (decimal n) ≤ 256 }
         ensures { self.new ≡ self.old ++ decimal n }
     {
-        let mut buffer = Buffer::new();
-        self.push_text(buffer.format(n).as_bytes());
+        // Division of 128 bits is slow, and few numbers need it.
+        if n <= u64::MAX as u128 {
+            self.push_number(n as u64);
+        } else {
+            let mut buffer = Buffer::new();
+            self.push_text(buffer.format(n).as_bytes());
+        }
     }
 
     fn push_integer(&mut self, kind: Kind, v: u128)

@@ -123,6 +123,7 @@ pub fn after(kind: Kind, call: &Call, v: u128) -> u128
 }
 
 /// What a call answers on an object that holds `v`; a weak exchange answers as a strong one.
+#[inline(always)]
 pub fn answer(kind: Kind, call: &Call, v: u128) -> Reply
     requires kind { IsKind kind }
     requires call { CallFits kind call.now }
@@ -159,7 +160,6 @@ pub fn answer(kind: Kind, call: &Call, v: u128) -> Reply
 
 /// Whether a kind has a call, and each operand is a value of the kind. A position may be any number.
 pub fn call_fits(kind: Kind, call: &Call) -> bool
-    requires { IsKind kind }
     ensures { IsTrue result ↔ CallFits kind call.now }
 {
     let int = kind.class == Class::Int;

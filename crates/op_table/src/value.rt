@@ -7,13 +7,16 @@ ghost use Rattle.op_table.specs.Value.{parsed_value, parsed_int, parsed_bool, pa
 use crate::kind::{Class, Kind};
 use crate::numeral::{Base, read_numeral};
 use crate::operations::mask;
+use thiserror::Error;
 
 /// Why a text spells no value of a kind.
-#[derive(Clone, Copy, Debug, PartialEq, Eq)]
+#[derive(Clone, Copy, Debug, PartialEq, Eq, Error)]
 pub enum ValueFault {
     /// The text isn't of the form of the kind's texts.
+    #[error("no number of the kind's form")]
     BadNumber,
     /// The text is of the form, and its number is none of the kind's.
+    #[error("a number that is none of the kind's")]
     OutOfRange,
 }
 

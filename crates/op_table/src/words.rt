@@ -2,8 +2,7 @@
 
 ghost use Rattle.std.specs.Prelude.{◌≡◌};
 ghost use Rattle.op_table.specs.Kind.{IsKind};
-ghost use Rattle.op_table.specs.Call.{CallFits};
-ghost use Rattle.op_table.specs.Words.{among, of_lengths, kind_word, kind_of_word, operation_word, operation_rows, operation_of_word, has_operation, operation_of, call_word};
+ghost use Rattle.op_table.specs.Words.{among, of_lengths, loud_or_quiet, sum_operation, operations_of, kind_word, kind_of_word, operation_word, operation_rows, operation_of_word, has_operation, operation_of, call_word};
 
 use crate::call::Call;
 use crate::kind::{Class, Kind, Width};
@@ -276,70 +275,130 @@ pub fn has_operation(class: Class, operation: Operation) -> bool
     }
 }
 
+fn loud_or_quiet(quiet: bool, replying: Operation, silent: Operation) -> Operation
+    ensures { result ≡ loud_or_quiet quiet replying silent }
+{
+    if quiet { silent } else { replying }
+}
+
+/// The operation of a sum on an object of a class: a pointer's counts bytes.
+fn sum(
+    class: Class,
+    quiet: bool,
+    replying: Operation,
+    silent: Operation,
+    bytewise: Operation,
+) -> Operation
+    ensures { result ≡ sum_operation class quiet replying silent bytewise }
+{
+    match class {
+        Class::Ptr => bytewise,
+        Class::Int | Class::Bool => loud_or_quiet(quiet, replying, silent),
+    }
+}
+
 /// The operation that a call of a kind is.
 pub fn operation_of(kind: Kind, call: &Call) -> Operation
-    requires kind { IsKind kind }
-    requires call { CallFits kind call.now }
     ensures { result ≡ operation_of kind call.now }
 {
-    let bytewise = kind.class == Class::Ptr;
+    use Operation as Op;
     match call {
-        Call::Load => Operation::Load,
-        Call::Store(_) => Operation::Store,
-        Call::Swap(_) => Operation::Swap,
-        Call::Cas(_, _) => Operation::CompareExchange,
-        Call::CasWeak(_, _) => Operation::CompareExchangeWeak,
-        Call::Add(_, _) if bytewise => Operation::FetchByteAdd,
-        Call::Add(_, quiet) => if *quiet {
-            Operation::Add
-        } else {
-            Operation::FetchAdd
-        },
-        Call::Sub(_, _) if bytewise => Operation::FetchByteSub,
-        Call::Sub(_, quiet) => if *quiet {
-            Operation::Sub
-        } else {
-            Operation::FetchSub
-        },
-        Call::And(_, quiet) => if *quiet {
-            Operation::And
-        } else {
-            Operation::FetchAnd
-        },
-        Call::Nand(_) => Operation::FetchNand,
-        Call::Or(_, quiet) => if *quiet {
-            Operation::Or
-        } else {
-            Operation::FetchOr
-        },
-        Call::Xor(_, quiet) => if *quiet {
-            Operation::Xor
-        } else {
-            Operation::FetchXor
-        },
-        Call::Max(_) => Operation::FetchMax,
-        Call::Min(_) => Operation::FetchMin,
-        Call::Not(quiet) => if *quiet {
-            Operation::Not
-        } else {
-            Operation::FetchNot
-        },
-        Call::Neg(quiet) => if *quiet {
-            Operation::Neg
-        } else {
-            Operation::FetchNeg
-        },
-        Call::BitSet(_) => Operation::BitSet,
-        Call::BitClear(_) => Operation::BitClear,
-        Call::BitToggle(_) => Operation::BitToggle,
+        Call::Load => Op::Load,
+        Call::Store(_) => Op::Store,
+        Call::Swap(_) => Op::Swap,
+        Call::Cas(_, _) => Op::CompareExchange,
+        Call::CasWeak(_, _) => Op::CompareExchangeWeak,
+        Call::Add(_, quiet) => sum(kind.class, *quiet, Op::FetchAdd, Op::Add, Op::FetchByteAdd),
+        Call::Sub(_, quiet) => sum(kind.class, *quiet, Op::FetchSub, Op::Sub, Op::FetchByteSub),
+        Call::And(_, quiet) => loud_or_quiet(*quiet, Op::FetchAnd, Op::And),
+        Call::Nand(_) => Op::FetchNand,
+        Call::Or(_, quiet) => loud_or_quiet(*quiet, Op::FetchOr, Op::Or),
+        Call::Xor(_, quiet) => loud_or_quiet(*quiet, Op::FetchXor, Op::Xor),
+        Call::Max(_) => Op::FetchMax,
+        Call::Min(_) => Op::FetchMin,
+        Call::Not(quiet) => loud_or_quiet(*quiet, Op::FetchNot, Op::Not),
+        Call::Neg(quiet) => loud_or_quiet(*quiet, Op::FetchNeg, Op::Neg),
+        Call::BitSet(_) => Op::BitSet,
+        Call::BitClear(_) => Op::BitClear,
+        Call::BitToggle(_) => Op::BitToggle,
     }
 }
 
 /// The word of a call of a kind. A pointer's sums are `fetch_byte_add` and `fetch_byte_sub`.
 pub fn call_word(kind: Kind, call: &Call) -> &'static str
-    requires kind { IsKind kind }
-    requires call { CallFits kind call.now }
     ensures { result.now ≡ call_word kind call.now }
 {
     operation_word(operation_of(kind, call))
+}
+
+const OF_NUMBERS: [Operation; 25] = [
+    Operation::Load,
+    Operation::Store,
+    Operation::Swap,
+    Operation::CompareExchange,
+    Operation::CompareExchangeWeak,
+    Operation::FetchAdd,
+    Operation::Add,
+    Operation::FetchSub,
+    Operation::Sub,
+    Operation::FetchAnd,
+    Operation::And,
+    Operation::FetchNand,
+    Operation::FetchOr,
+    Operation::Or,
+    Operation::FetchXor,
+    Operation::Xor,
+    Operation::FetchMax,
+    Operation::FetchMin,
+    Operation::FetchNot,
+    Operation::Not,
+    Operation::FetchNeg,
+    Operation::Neg,
+    Operation::BitSet,
+    Operation::BitClear,
+    Operation::BitToggle,
+];
+
+const OF_BOOLS: [Operation; 14] = [
+    Operation::Load,
+    Operation::Store,
+    Operation::Swap,
+    Operation::CompareExchange,
+    Operation::CompareExchangeWeak,
+    Operation::FetchAnd,
+    Operation::And,
+    Operation::FetchNand,
+    Operation::FetchOr,
+    Operation::Or,
+    Operation::FetchXor,
+    Operation::Xor,
+    Operation::FetchNot,
+    Operation::Not,
+];
+
+const OF_POINTERS: [Operation; 13] = [
+    Operation::Load,
+    Operation::Store,
+    Operation::Swap,
+    Operation::CompareExchange,
+    Operation::CompareExchangeWeak,
+    Operation::FetchByteAdd,
+    Operation::FetchByteSub,
+    Operation::FetchAnd,
+    Operation::FetchOr,
+    Operation::FetchXor,
+    Operation::BitSet,
+    Operation::BitClear,
+    Operation::BitToggle,
+];
+
+/// The operations of a class, in the order in which plans list them.
+pub fn operations_of(class: Class) -> &'static [Operation]
+    ensures { result.now ≡ operations_of class }
+{
+    match class {
+        Class::Int => &OF_NUMBERS,
+        Class::Bool => &OF_BOOLS,
+        Class::Ptr => &OF_POINTERS,
+    }
 }

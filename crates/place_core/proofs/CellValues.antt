@@ -4,7 +4,7 @@ use Rattle.std.specs.Prelude.{Some, None, slice_get}
 use Rattle.std.specs.declared.option.Option.{Option}
 use Rattle.op_table.specs.declared.kind.Kind.{Kind}
 use Rattle.op_table.specs.declared.call.Call.{Call}
-use Rattle.op_table.specs.declared.call.Call.TheVariants.{Load, Store, Swap, Cas, CasWeak, Add, Sub, And, Nand, Or, Xor, Max, Min, Not, Neg, BitSet, BitClear, BitToggle}
+use Rattle.op_table.specs.declared.call.Call.TheVariants.{Cas, CasWeak, Add, Sub, And, Or, Xor, Not, Neg}
 use Rattle.op_table.specs.declared.call.Reply.TheVariants as reply
 use Rattle.op_table.specs.Call.{after_of, answer_of}
 use Rattle.place_core.specs.declared.entry.Entry.{Entry}
@@ -32,15 +32,7 @@ effect_of-answer_of kind (Or a q) v = effect_of-quiet v (after_of kind (Or a q) 
 effect_of-answer_of kind (Xor a q) v = effect_of-quiet v (after_of kind (Xor a q) v) q
 effect_of-answer_of kind (Not q) v = effect_of-quiet v (after_of kind (Not q) v) q
 effect_of-answer_of kind (Neg q) v = effect_of-quiet v (after_of kind (Neg q) v) q
-effect_of-answer_of kind Load v = refl
-effect_of-answer_of kind (Store a) v = refl
-effect_of-answer_of kind (Swap a) v = refl
-effect_of-answer_of kind (Nand a) v = refl
-effect_of-answer_of kind (Max a) v = refl
-effect_of-answer_of kind (Min a) v = refl
-effect_of-answer_of kind (BitSet p) v = refl
-effect_of-answer_of kind (BitClear p) v = refl
-effect_of-answer_of kind (BitToggle p) v = refl
+effect_of-answer_of kind _ v = refl
 
 -- ---- values
 

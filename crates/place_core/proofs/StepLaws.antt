@@ -6,7 +6,7 @@ use Rattle.std.proofs.Math.Nat.{pow-le-pow_right}
 use Rattle.std.proofs.lemmas.Bool.{eqb-true}
 use Rattle.op_table.specs.declared.kind.Kind.{Kind}
 use Rattle.op_table.specs.declared.call.Call.{Call}
-use Rattle.op_table.specs.declared.call.Call.TheVariants.{Load, Store, Swap, Cas, CasWeak, Add, Sub, And, Nand, Or, Xor, Max, Min, Not, Neg, BitSet, BitClear, BitToggle}
+use Rattle.op_table.specs.declared.call.Call.TheVariants.{Load, Store, Swap, Cas, CasWeak, Add, Sub, And, Or, Xor, Max, Min, Not, BitSet, BitClear, BitToggle}
 use Rattle.op_table.specs.Kind.{bits_of, values_of}
 use Rattle.op_table.specs.Call.{after_of, answer_of, bit_place, rank_of, CallFits}
 use Rattle.op_table.proofs.Rows.{place_fits, after_fits}
@@ -69,7 +69,6 @@ module _ (k : Kind) (s v n : ℕ) (sole : Bool) (h : HasLane s (bits_of k.width)
   serves_lane (Sub a q) done c e = let t = only (is_top s (bits_of k.width)) (op.Sub (a * 2 ^ s)) done e in
       by_op (after_of k (Sub a q) v) (op.Sub (a * 2 ^ s)) done t.1 (sub_lane s (bits_of k.width) v n a h c.0 (eqb-true (s + bits_of k.width) 64 t.0))
   serves_lane (And a q) done c e = by_op (bit_and v a) (op.And (a * 2 ^ s + outside s (bits_of k.width))) done (cc (e)) (and_lane s (bits_of k.width) v n a h c.0)
-  serves_lane (Nand a) done c e = absurd cc
   serves_lane (Or a q) done c e = by_op (bit_or v a) (op.Or (a * 2 ^ s)) done (cc (e)) (or_lane s (bits_of k.width) v n a h c.0)
   serves_lane (Xor a q) done c e = by_op (bit_xor v a) (op.Xor (a * 2 ^ s)) done (cc (e)) (xor_lane s (bits_of k.width) v n a h c.0)
   serves_lane (Max a) done c e =
@@ -85,7 +84,6 @@ module _ (k : Kind) (s v n : ℕ) (sole : Bool) (h : HasLane s (bits_of k.width)
   serves_lane (Not q) done c e = let small = h.small in let pos = pow_pos (bits_of k.width) in
       by_op (after_of k (Not q) v) (op.Xor ((2 ^ bits_of k.width - 1) * 2 ^ s)) done (cc (e))
       (subst (λ (z : ℕ). Replaces s v z n (bit_xor n ((2 ^ bits_of k.width - 1) * 2 ^ s))) (xor_ones (bits_of k.width) v small) (xor_lane s (bits_of k.width) v n (2 ^ bits_of k.width - 1) h (omega arith)))
-  serves_lane (Neg q) done c e = absurd cc
   serves_lane (BitSet p) done c e = by_op (after_of k (BitSet p) v) (op.Or (2 ^ (s + p % bits_of k.width))) done (cc (e))
       (subst (λ (z : ℕ). Replaces s v (bit_or v (bit_place k p)) n (bit_or n z)) (sym (bit_at s (p % bits_of k.width))) (or_lane s (bits_of k.width) v n (bit_place k p) h (place_fits k p)))
   serves_lane (BitClear p) done c e = let small = h.small in let pos = pow_pos (bits_of k.width) in
@@ -96,6 +94,7 @@ module _ (k : Kind) (s v n : ℕ) (sole : Bool) (h : HasLane s (bits_of k.width)
       (and_lane s (bits_of k.width) v n (2 ^ bits_of k.width - 1 - bit_place k p) h (omega arith)))
   serves_lane (BitToggle p) done c e = by_op (after_of k (BitToggle p) v) (op.Xor (2 ^ (s + p % bits_of k.width))) done (cc (e))
       (subst (λ (z : ℕ). Replaces s v (bit_xor v (bit_place k p)) n (bit_xor n z)) (sym (bit_at s (p % bits_of k.width))) (xor_lane s (bits_of k.width) v n (bit_place k p) h (place_fits k p)))
+  serves_lane _ done c e = absurd cc
 
 -- what a step that replaces a lane makes of its word
 pub replaced_word : (S : Shape) (log : List Entry) (x : Entry) (w s d m : ℕ) → place_of S x.object ≡ Some (Lane w s d)

@@ -13,6 +13,7 @@ pub fn raised(value: u128, shift: u32, width: u32) -> u64
 }
 
 /// The value in a lane's bits of a word.
+#[inline(always)]
 pub fn lane_bits(word: u64, shift: u32, width: u32) -> u128
     requires { (0 < width) × (shift + width ≤ 64) }
     ensures value { result ≡ word / 2 ^ shift % 2 ^ width }
@@ -22,6 +23,7 @@ pub fn lane_bits(word: u64, shift: u32, width: u32) -> u128
 }
 
 /// The word with another value in a lane's bits.
+#[inline(always)]
 pub fn put_lane(word: u64, shift: u32, width: u32, value: u128) -> u64
     requires lane { (0 < width) × (shift + width ≤ 64) }
     requires fits { value < 2 ^ width }

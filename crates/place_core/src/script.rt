@@ -11,8 +11,8 @@ use std::marker::Model;
 /// A call that a script asks for, on the object of that number. Only an exchange has a failure order.
 #[derive(Clone, Copy, Debug, PartialEq, Eq)]
 pub struct Line {
-    pub object: u32,
     pub call: Call,
+    pub object: u32,
     pub success: Order,
     pub failure: Option<Order>,
 }

@@ -20,6 +20,7 @@ fn only_if(allowed: bool, op: WordOp) -> Option<WordOp>
 
 /// The step that makes a call on a lane, where there is one: the lane's lowest bit, its bits, and whether no other
 /// lane is in its word. It may be one that a target hasn't.
+#[inline(always)]
 pub fn op_for(kind: Kind, shift: u32, width: u32, sole: bool, call: &Call) -> Option<WordOp>
     requires width { width ≡ bits_of kind.width }
     requires ends { shift + width ≤ 64 }
@@ -88,6 +89,7 @@ pub fn is_sole(shape: &Shape, word: u32) -> bool
 }
 
 /// Whether the words of a target have a step.
+#[inline(always)]
 pub fn has_step(steps: StepSet, op: &WordOp) -> bool
     ensures { result ≡ has_step steps op.now }
 {

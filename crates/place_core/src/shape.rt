@@ -33,6 +33,7 @@ impl Objects {
     }
 
     /// The number of objects.
+    #[inline(always)]
     pub fn len(&self) -> usize
         ensures { result ≡ length self.now }
     {
@@ -40,6 +41,7 @@ impl Objects {
     }
 
     /// The object of a number, counted from 0.
+    #[inline(always)]
     pub fn at(&self, index: usize) -> Object
         requires { index < length self.now }
         ensures { slice_get self.now index ≡ Some result }

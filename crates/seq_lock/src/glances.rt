@@ -9,15 +9,19 @@ ghost use Rattle.seat_views.specs.LockStates.{ReadsPart, Matches};
 ghost use Rattle.seq_lock.specs.Glances.{Begins, BeginsNot, EndsNot};
 
 use seat_views::{Arena, Pass};
+use thiserror::Error;
 
 /// Why a glance has no value.
-#[derive(Clone, Copy, PartialEq, Eq, Debug)]
+#[derive(Clone, Copy, Debug, PartialEq, Eq, Error)]
 pub enum Missed {
     /// The lock was held.
+    #[error("the lock was held")]
     Held,
     /// The lock had another number at the end than its stamp at the begin.
+    #[error("the stamp went from {first} to {second}")]
     Moved { first: u64, second: u64 },
     /// The lock has its last stamp, at which no glance begins.
+    #[error("the lock has its last stamp")]
     Last,
 }
 

@@ -9,15 +9,19 @@ ghost use Rattle.target_desc.specs.Reading.{cursor_of, word_at, need_at, end_at,
 use crate::fields::{bits_of, locks_of, packed_of, section_of, steps_of};
 use crate::target::{Target, builtin};
 use line_words::Words;
+use thiserror::Error;
 
 /// Why the words after `target` give no target. Words count from 1, and the word `target` is the first of its line.
-#[derive(Clone, Copy, Debug, PartialEq, Eq)]
+#[derive(Clone, Copy, Debug, PartialEq, Eq, Error)]
 pub enum TargetFault {
     /// The one word is no name of a target, or a word isn't what its place in a description asks for.
+    #[error("word {word} is no part of a target there")]
     Bad { word: u32 },
     /// A word is wanting there. Those before it are as they must be.
+    #[error("word {word} is missing")]
     Missing { word: u32 },
     /// A word stands after a whole description.
+    #[error("word {word} is one too many")]
     Extra { word: u32 },
 }
 

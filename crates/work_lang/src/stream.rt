@@ -8,9 +8,11 @@ ghost use Rattle.work_lang.specs.Faults.{last_count, Rose, HasCause};
 ghost use Rattle.work_lang.specs.Streams.{most_read, ReadsAll, LosesFront, Writes};
 
 use std::alloc::Global;
+use thiserror::Error;
 
 /// A read or a write failed. Nothing was read or taken, and the count of faults rose.
-#[derive(Clone, Copy, Debug, PartialEq, Eq)]
+#[derive(Clone, Copy, Debug, PartialEq, Eq, Error)]
+#[error("a read or a write failed")]
 pub struct Failed;
 
 /// Where bytes come from.

@@ -1,4 +1,4 @@
-use Rattle.std.proofs.Common.{◌≡◌, ℕ, ◌≤◌, List, length, refl, sym, ◌∙◌, arith}
+use Rattle.std.proofs.Common.{◌≡◌, ℕ, ◌≤◌, List, length, sym, ◌∙◌, arith}
 use Rattle.op_table.specs.Words.{among, of_lengths, operation_rows, operation_of_word}
 use Rattle.op_table.proofs.Tables.{among_of_lengths}
 use Rattle.op_table.proofs.words.operation_of_word.Goals as goal
