@@ -6,7 +6,7 @@ ghost use Rattle.seat_views.specs.Trials.{IsReady, IsReadyRoot};
 use crate::Served;
 use layout_plan::{are_declared, lay};
 use op_table::{Call, Class, Kind, Reply, Width, call_fits};
-use place_core::{Declared, Name};
+use place_core::{Declared, MOST_IN_SHAPE, Name};
 use seat_views::{Arena, Pass, Root};
 use std::alloc::Global;
 use std::sync::Wait;
@@ -33,7 +33,7 @@ pub(crate) fn open(alloc: Global, target: &[u8], objects: &[Declared]) -> Option
     ensures { IfSome result (λ r. IsReadyRoot r.0 r.1) }
 {
     let target = builtin(target)?;
-    if !target_ok(&target) || !are_declared(objects) || objects.len() > 65536 {
+    if !target_ok(&target) || !are_declared(objects) || objects.len() > MOST_IN_SHAPE {
         return None;
     }
     let shape = lay(alloc, &target, objects).ok()?;

@@ -8,7 +8,7 @@ use crate::turn_until;
 use lane_word::Lane;
 use layout_plan::{are_declared, lay};
 use op_table::{Call, Class, Kind, Reply, Width, after, call_fits};
-use place_core::{Declared, Name, Path, Place, lane_bits};
+use place_core::{Declared, MOST_IN_SHAPE, Name, Path, Place, lane_bits};
 use scalar_laws::Scalar;
 use seat_views::{Arena, Pass, Root};
 use std::alloc::Global;
@@ -35,7 +35,7 @@ pub(crate) fn open(alloc: Global, target: &[u8], objects: &[Declared]) -> Option
     ensures { IfSome result (λ r. IsReadyRoot r.0 r.1) }
 {
     let target = builtin(target)?;
-    if !target_ok(&target) || !are_declared(objects) || objects.len() > 65536 {
+    if !target_ok(&target) || !are_declared(objects) || objects.len() > MOST_IN_SHAPE {
         return None;
     }
     let shape = lay(alloc, &target, objects).ok()?;

@@ -6,7 +6,7 @@ use Rattle.target_desc.specs.declared.target.Target.{Target}
 use Rattle.target_desc.specs.Target.{IsTarget}
 use Rattle.place_core.specs.declared.name.Declared.{Declared}
 use Rattle.place_core.specs.declared.places.Object.{Object}
-use Rattle.place_core.specs.Shapes.{IsShape}
+use Rattle.place_core.specs.Shapes.{IsShape, most_in_shape}
 use Rattle.place_core.specs.Validity.{IsSized, IsObject, span_of, span_in, ApartSpans, AllApart}
 use Rattle.place_core.proofs.ShapeTests.{apart_spans, shape_is}
 use Rattle.std.specs.List.{AllByRecursion}
@@ -89,7 +89,7 @@ laid_is_shape t xs ok each most =
 -- the walk over all objects has laid the shape
 pub walk_is_shape : (t : Target) (xs rest : List Declared) (after words : ℕ) (laid os : List Object) → length rest < 1
     → laid ++ objects_from t after rest ≡ objects_from t 0 xs → end_from t after rest ≡ end_from t 0 xs → words ≡ words_for t after → os ≡ laid
-    → IsTarget t → AreDeclared xs → length xs ≤ 65536
+    → IsTarget t → AreDeclared xs → length xs ≤ most_in_shape
     → IsShape (record { word_bits = t.word_bits; steps = t.steps; section = t.section; words = words; locks = t.locks; objects = os })
 walk_is_shape t xs [] after words laid os none whole last is are ok each most =
     let all : objects_from t 0 xs ≡ os = sym (are ∙ (sym (append-nil laid) ∙ whole)) in

@@ -11,13 +11,13 @@ use Rattle.place_core.specs.declared.places.Path.TheVariants.{One}
 use Rattle.place_core.specs.declared.places.WordOp.{WordOp}
 use Rattle.place_core.specs.declared.shape.Shape.{Shape}
 use Rattle.place_core.specs.Cells.{Cell}
-use Rattle.place_core.specs.Shapes.{place_of, kind_of, start_of, cells_of_shape, IsShape}
+use Rattle.place_core.specs.Shapes.{place_of, kind_of, start_of, cells_of_shape, IsShape, most_in_shape}
 use Rattle.place_core.specs.Operations.{OpServes, plan_of}
 use Rattle.layout_plan.specs.Layout.{AreDeclared, alignment_of, address_of, place_at, shape_of}
 
 -- what is laid is a shape
 abbrev pub LaidIsShape : Type 0
-LaidIsShape = (t : Target) (xs : List Declared) → IsTarget t → AreDeclared xs → length xs ≤ 65536 → IsShape (shape_of t xs)
+LaidIsShape = (t : Target) (xs : List Declared) → IsTarget t → AreDeclared xs → length xs ≤ most_in_shape → IsShape (shape_of t xs)
 
 -- object o of a laid shape is declared object o, placed at its address
 abbrev pub LaidIsDeclared : Type 0

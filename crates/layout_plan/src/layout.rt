@@ -2,7 +2,7 @@
 
 ghost use Rattle.std.specs.Prelude.{◌≡◌, ◌↔◌, ◌≤◌, ◌*◌, true, length, IsTrue, IfOk, IfErr, ◌<◌};
 ghost use Rattle.target_desc.specs.Target.{IsTarget};
-ghost use Rattle.place_core.specs.Shapes.{IsShape};
+ghost use Rattle.place_core.specs.Shapes.{IsShape, most_in_shape};
 ghost use Rattle.place_core.specs.DeclaredObjects.{IsDeclared};
 ghost use Rattle.layout_plan.specs.Layout.{AreDeclared, word_bytes, alignment_of, next_address, has_lane, shift_at, place_at, laid_at, words_for, shape_of};
 
@@ -123,7 +123,7 @@ pub fn are_declared(objects: &[Declared]) -> bool
 pub fn lay(alloc: Global, target: &Target, objects: &[Declared]) -> Result<Shape, NoMemory>
     requires target { IsTarget target.now }
     requires objects { AreDeclared objects.now }
-    requires most { length objects.now ≤ 65536 }
+    requires most { length objects.now ≤ most_in_shape }
     ensures layout { IfOk result (λ s. s ≡ shape_of target.now objects.now) }
     ensures valid { IfOk result (λ s. IsShape s) }
     ensures some { IfErr result (λ _. 0 < length objects.now) }

@@ -10,7 +10,7 @@ use Rattle.target_desc.specs.declared.target.Target.{Target}
 use Rattle.target_desc.specs.Target.{IsTarget}
 use Rattle.place_core.specs.declared.name.Declared.{Declared}
 use Rattle.place_core.specs.declared.shape.Shape.{Shape}
-use Rattle.place_core.specs.Shapes.{kind_of}
+use Rattle.place_core.specs.Shapes.{kind_of, most_in_shape}
 use Rattle.layout_plan.specs.Layout.{AreDeclared, shape_of}
 use Rattle.layout_plan.specs.Laws.{HasLane}
 use Rattle.lock_free_info.specs.declared.classes.PathClass.TheVariants.{Locked}
@@ -49,4 +49,4 @@ IsShortLine line = length line ≤ 107
 
 -- each line of a plan table is short
 abbrev pub PlanLinesAreShort : Type 0
-PlanLinesAreShort = (t : Target) (xs : List Declared) → IsTarget t → AreDeclared xs → length xs ≤ 65536 → AllByRecursion HasShortName xs → AllByRecursion IsShortLine (plan_lines t xs)
+PlanLinesAreShort = (t : Target) (xs : List Declared) → IsTarget t → AreDeclared xs → length xs ≤ most_in_shape → AllByRecursion HasShortName xs → AllByRecursion IsShortLine (plan_lines t xs)

@@ -5,7 +5,7 @@ ghost use Rattle.std.specs.Prelude.{slice_get, Some, IsSomeAnd};
 ghost use Rattle.op_table.specs.Kind.{IsKind};
 ghost use Rattle.op_table.specs.Words.{operations_of};
 ghost use Rattle.target_desc.specs.Target.{IsTarget};
-ghost use Rattle.place_core.specs.Shapes.{IsShape};
+ghost use Rattle.place_core.specs.Shapes.{IsShape, most_in_shape};
 ghost use Rattle.layout_plan.specs.Layout.{AreDeclared, laid_at, shape_of};
 ghost use Rattle.layout_plan.specs.Plans.{is_sole_at};
 ghost use Rattle.work_lang.specs.Streams.{Writes};
@@ -165,7 +165,7 @@ fn write_objects<K: Sink>(
 ) -> Result<(), WriteEnd>
     requires target { IsTarget target.now }
     requires objects { AreDeclared objects.now }
-    requires most { length objects.now ≤ 65536 }
+    requires most { length objects.now ≤ most_in_shape }
     requires shape { shape.now ≡ shape_of target.now objects.now }
     ensures { Writes K.taken K.faults sink.old sink.new result (lines_from target.now shape.now 0 0 objects.now) }
 {
@@ -194,7 +194,7 @@ pub(crate) fn write_table<K: Sink>(
 ) -> Result<(), WriteEnd>
     requires target { IsTarget target.now }
     requires objects { AreDeclared objects.now }
-    requires most { length objects.now ≤ 65536 }
+    requires most { length objects.now ≤ most_in_shape }
     requires shape { shape.now ≡ shape_of target.now objects.now }
     ensures { Writes K.taken K.faults sink.old sink.new result (plan_lines target.now objects.now) }
 {

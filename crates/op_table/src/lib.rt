@@ -19,7 +19,7 @@ pub use call_tests::{does_write, expects_another, is_exchange, is_load, is_weak}
 pub use kind::{Class, Kind, NoMemory, Width, bits, bytes, kind_ok};
 pub use line_buf::LineBuf;
 pub use operations::{after, answer, call_fits};
-pub use order::{LoadOrder, Order, StepSet, StoreOrder};
+pub use order::{LoadOrder, MOST_LOCKS, Order, StepSet, StoreOrder};
 pub use orders::{order_fits, order_of_word, order_word};
 pub use value::{ValueFault, read_value};
 pub use words::{

@@ -26,6 +26,9 @@ pub enum StoreOrder {
     SeqCst,
 }
 
+/// The most locks that a target has, as many as libatomic's table of locks may hold.
+pub const MOST_LOCKS: u32 = 67;
+
 /// The word operations that a target has beside load, store, and compare and exchange.
 #[derive(Clone, Copy, Debug, PartialEq, Eq)]
 pub struct StepSet {

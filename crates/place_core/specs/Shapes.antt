@@ -4,6 +4,7 @@ use Rattle.op_table.specs.declared.kind.Kind.{Kind}
 use Rattle.op_table.specs.declared.kind.Width.TheVariants.{W1}
 use Rattle.op_table.specs.declared.kind.Class.TheVariants as class
 use Rattle.op_table.specs.Kind.{bits_of, values_of, IsKind}
+use Rattle.op_table.specs.Limits.{most_locks}
 use Rattle.place_core.specs.declared.entry.Entry.{Entry}
 use Rattle.place_core.specs.declared.places.Place.{Place}
 use Rattle.place_core.specs.declared.places.Place.TheVariants.{Lane, Parts}
@@ -96,13 +97,17 @@ abbrev pub IsInSection : Place → Type 0
 IsInSection (Lane w s d) = ⊥
 IsInSection (Parts l f n b) = l ≡ 0
 
+-- the objects of a shape
+abbrev pub most_in_shape : ℕ
+most_in_shape = 65536
+
 -- what `shape_ok` tests
 pub record IsShape (S : Shape) : Type 0 where
   pub bits : (S.word_bits ≡ 32) ⊎ (S.word_bits ≡ 64)
   pub words : S.words ≤ 2 ^ 24
   pub some_lock : 1 ≤ S.locks
-  pub locks : S.locks ≤ 67
-  pub objects : length S.objects ≤ 65536
+  pub locks : S.locks ≤ most_locks
+  pub objects : length S.objects ≤ most_in_shape
   pub kinds : (o : ℕ) → IsKind (kind_of S o)
   pub starts : (o : ℕ) → start_of S o < values_of (kind_of S o)
   pub placed : (o : ℕ) (a : Place) → place_of S o ≡ Some a → IsPlaced S (kind_of S o) a

@@ -1,19 +1,20 @@
 -- What `shape_ok` tests, step by step: sizes, then each object, then that objects are apart, by spans of bits.
 use Rattle.std.specs.Prelude.{◌≡◌, ◌⊎◌, ℕ, ◌+◌, ◌*◌, ◌/◌, ◌%◌, ◌^◌, ◌<◌, ◌≤◌, Bool, true, ◌&&◌, nat_le, List, [], ◌∷◌, length, Option, Some, None, slice_get}
 use Rattle.op_table.specs.Kind.{values_of, IsKind}
+use Rattle.op_table.specs.Limits.{most_locks}
 use Rattle.place_core.specs.declared.places.Place.{Place}
 use Rattle.place_core.specs.declared.places.Place.TheVariants.{Lane, Parts}
 use Rattle.place_core.specs.declared.places.Object.{Object}
 use Rattle.place_core.specs.declared.shape.Shape.{Shape}
-use Rattle.place_core.specs.Shapes.{IsPlaced, IsInSection}
+use Rattle.place_core.specs.Shapes.{IsPlaced, IsInSection, most_in_shape}
 
 -- word size, words, locks and the number of objects are within their limits
 pub record IsSized (S : Shape) : Type 0 where
   pub bits : (S.word_bits ≡ 32) ⊎ (S.word_bits ≡ 64)
   pub words : S.words ≤ 2 ^ 24
   pub some_lock : 1 ≤ S.locks
-  pub locks : S.locks ≤ 67
-  pub objects : length S.objects ≤ 65536
+  pub locks : S.locks ≤ most_locks
+  pub objects : length S.objects ≤ most_in_shape
 
 -- the object may be one of the shape
 pub record IsObject (S : Shape) (a : Object) : Type 0 where

@@ -35,4 +35,4 @@ pub use replies::Replies;
 pub use script::{Line, Lines, Piece, Script};
 pub use serving::{has_step, is_sole, op_for, op_serves};
 pub use shape::{Objects, Shape, data_word, lock_word};
-pub use valid::shape_ok;
+pub use valid::{MOST_IN_SHAPE, shape_ok};

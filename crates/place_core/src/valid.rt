@@ -3,15 +3,15 @@
 ghost use Rattle.std.specs.Prelude.{◌≡◌, ◌↔◌, ◌<◌, ◌≤◌, ℕ, length, slice_get, slice_index, IsTrue};
 ghost use Rattle.std.specs.List.{AllByRecursion};
 ghost use Rattle.op_table.specs.Kind.{bits_of};
-ghost use Rattle.place_core.specs.Shapes.{IsPlaced, IsInSection, IsShape};
+ghost use Rattle.place_core.specs.Shapes.{IsPlaced, IsInSection, IsShape, most_in_shape};
 ghost use Rattle.place_core.specs.Validity.{IsSized, IsObject, span_of, span_in, AllApart, is_before, are_in_row};
 
 use crate::places::{Object, Place};
 use crate::shape::Shape;
-use op_table::{Call, Kind, bits, call_fits, kind_ok};
+use op_table::{Call, Kind, MOST_LOCKS, bits, call_fits, kind_ok};
 
-/// A shape has at most so many objects.
-const MOST_OBJECTS: usize = 65536;
+/// The most objects of a shape.
+pub const MOST_IN_SHAPE: usize = 65_536;
 
 fn is_sized(shape: &Shape) -> bool
     ensures { IsTrue result ↔ IsSized shape.now }
@@ -19,8 +19,8 @@ fn is_sized(shape: &Shape) -> bool
     (shape.word_bits == 32 || shape.word_bits == 64)
         && shape.words <= 16777216
         && 1 <= shape.locks
-        && shape.locks <= 67
-        && shape.objects.len() <= MOST_OBJECTS
+        && shape.locks <= MOST_LOCKS
+        && shape.objects.len() <= MOST_IN_SHAPE
 }
 
 fn is_placed(shape: &Shape, kind: Kind, place: Place) -> bool
@@ -139,10 +139,10 @@ fn are_in_row(spans: &[u64]) -> bool
 fn are_apart(shape: &Shape, objects: &[Object]) -> bool
     requires objects { AllByRecursion (IsObject shape.now) objects.now }
     requires sized { IsSized shape.now }
-    requires most { length objects.now ≤ 65536 }
+    requires most { length objects.now ≤ most_in_shape }
     ensures { IsTrue result ↔ AllApart objects.now }
 {
-    let mut room = [0u64; MOST_OBJECTS];
+    let mut room = [0u64; MOST_IN_SHAPE];
     let spans = &mut room[..objects.len()];
     put_spans(shape, objects, spans);
     spans.sort_unstable();

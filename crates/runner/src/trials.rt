@@ -11,7 +11,7 @@ ghost use Rattle.runner.specs.Scripts.{IsReady};
 use crate::Worker;
 use layout_plan::{are_declared, lay};
 use op_table::{Call, Class, Kind, Order, Width, call_fits};
-use place_core::{Declared, Gate, Line, Name, Replies, Script, Shape};
+use place_core::{Declared, MOST_IN_SHAPE, Gate, Line, Name, Replies, Script, Shape};
 use seat_views::{Arena, Root};
 use std::alloc::Global;
 use std::sync::atomic::{AtomicBool, Ordering};
@@ -36,7 +36,7 @@ pub(crate) fn open(alloc: Global, target: &[u8], objects: &[Declared]) -> Option
     ensures { IfSome result (λ r. IsReadyRoot r.0 r.1) }
 {
     let target = builtin(target)?;
-    if !target_ok(&target) || !are_declared(objects) || objects.len() > 65536 {
+    if !target_ok(&target) || !are_declared(objects) || objects.len() > MOST_IN_SHAPE {
         return None;
     }
     let shape = lay(alloc, &target, objects).ok()?;

@@ -8,7 +8,7 @@ ghost use Rattle.place_core.specs.Shapes.{IsShape, cells_of_shape};
 use crate::{WholeRun, run_whole};
 use layout_plan::{are_declared, lay};
 use op_table::{Call, Class, Kind, Order, Width, call_fits};
-use place_core::{Declared, Line, Name, OpenGate, Script, Shape};
+use place_core::{Declared, MOST_IN_SHAPE, Line, Name, OpenGate, Script, Shape};
 use std::alloc::Global;
 use std::sync::Wait;
 use std::thread::Threads;
@@ -33,7 +33,7 @@ fn laid(alloc: Global, objects: &[Declared]) -> Option<Shape>
     ensures { IfSome result (λ s. IsShape s) }
 {
     let target = builtin(b"full64")?;
-    if !target_ok(&target) || !are_declared(objects) || objects.len() > 65536 {
+    if !target_ok(&target) || !are_declared(objects) || objects.len() > MOST_IN_SHAPE {
         return None;
     }
     lay(alloc, &target, objects).ok()
