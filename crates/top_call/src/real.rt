@@ -1,7 +1,8 @@
 //! Readers and writers of std as a source and a sink: the edge that is trusted.
 
 ghost use Rattle.std.specs.Prelude.{◌≡◌, [], OnOk, IfOk};
-ghost use Rattle.std.specs.Io.Buffered.{writer_contents, writer_buffer};
+ghost use Rattle.std.specs.Io.Buffered.{writer_contents, writer_buffer, writer_inner};
+ghost use Rattle.std.specs.Io.KnownBytes.{Keeps};
 ghost use Rattle.work_lang.specs.Faults.{Rose, HasCause};
 
 use op_table::NoMemory;
@@ -19,7 +20,8 @@ pub struct ReadSource<R: Read + Drop> {
 impl<R: Read + Drop> ReadSource<R> {
     /// A source over the reader; no read has failed, and the count of faults is 0.
     pub fn new(reader: R) -> Self
-        ensures { result.faults ≡ 0 }
+        ensures reader { result.reader ≡ reader }
+        ensures faults { result.faults ≡ 0 }
     {
         ReadSource { reader, faults: 0 }
     }
@@ -56,7 +58,9 @@ pub struct WriteSink<W: Write + Drop> {
 impl<W: Write + Drop> WriteSink<W> {
     /// A sink over the writer; no write has failed, and the count of faults is 0.
     pub fn new(alloc: Global, writer: W) -> Result<Self, NoMemory>
-        ensures { IfOk result (λ s. s.faults ≡ 0) }
+        ensures writer { IfOk result (λ s. writer_inner s.writer ≡ writer) }
+        ensures empty { IfOk result (λ s. writer_buffer s.writer ≡ []) }
+        ensures faults { IfOk result (λ s. s.faults ≡ 0) }
     {
         match BufWriter::with_capacity(alloc, BUFFER_SIZE, writer) {
             Ok(writer) => Ok(WriteSink { writer, faults: 0 }),
@@ -64,9 +68,10 @@ impl<W: Write + Drop> WriteSink<W> {
         }
     }
 
-    /// Hands on what the buffer holds. Failed comes only where the count of faults rises.
+    /// Hands on what the buffer holds, and loses none of it. Failed comes only where the count of faults rises.
     pub fn flush(&mut self) -> Result<(), Failed>
         ensures cause { HasCause self.old.faults self.new.faults result }
+        ensures bytes { Keeps (writer_contents W.contents self.old.writer) (writer_contents W.contents self.new.writer) }
         ensures empty { OnOk result (writer_buffer self.new.writer ≡ []) }
     {
         let failed = self.faults.saturating_add(1);

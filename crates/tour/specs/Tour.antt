@@ -1,23 +1,12 @@
 -- What the tour's functions need of passes and objects.
-use Rattle.std.specs.Prelude.{◌≡◌, false}
+use Rattle.std.specs.Prelude.{false}
 use Rattle.op_table.specs.declared.kind.Width.TheVariants.{W16, W128}
 use Rattle.scalar_laws.specs.Kinds.{address, integer, truth}
 use Rattle.place_core.specs.declared.shape.Shape.{Shape}
-use Rattle.seat_views.specs.declared.view.Flight.TheVariants.{Idle}
-use Rattle.seat_views.specs.States.{ArenaState, PassState, IsNoteOf, IsOf}
+use Rattle.seat_views.specs.States.{ArenaState, IsNoteOf}
 use Rattle.atomic_types.specs.Atomics.{HasAtomic}
 use Rattle.tour.specs.declared.shared.Shared.{Shared}
 use Rattle.tour.specs.declared.visits.Seen.{Seen}
-
--- a pass of the arena, with nothing in flight
-pub record IsReady (a : ArenaState) (p : PassState) : Type 0 where
-  pub of : IsOf a p
-  pub rest : p.flight ≡ Idle
-
--- the root's pass
-pub record IsReadyRoot (a : ArenaState) (p : PassState) : Type 0 where
-  pub ready : IsReady a p
-  pub root : p.number ≡ 0
 
 -- each object is there, and is of its type's kind
 pub record AreOn (S : Shape) (s : Shared) : Type 0 where

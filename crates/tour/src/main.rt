@@ -1,7 +1,8 @@
 //! A tour of the library: four threads share a flag, a counter, an id of 128 bits and a pointer with a tag.
 #![tactic(auto)]
 
-ghost use Rattle.tour.specs.Tour.{AreOn, IsReady};
+ghost use Rattle.seat_views.specs.Trials.{IsReady};
+ghost use Rattle.tour.specs.Tour.{AreOn};
 
 use crate::shared::{Shared, give, open};
 use crate::visits::{begin, four};

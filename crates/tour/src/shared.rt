@@ -1,7 +1,8 @@
 //! The arena, and the four objects on it.
 
 ghost use Rattle.std.specs.Prelude.{IfSome};
-ghost use Rattle.tour.specs.Tour.{AreOn, IsReady, IsReadyRoot};
+ghost use Rattle.seat_views.specs.Trials.{IsReady, IsReadyRoot};
+ghost use Rattle.tour.specs.Tour.{AreOn};
 
 use atomic_types::{AtomicBool, AtomicU16, AtomicU128};
 use layout_plan::{are_declared, lay};

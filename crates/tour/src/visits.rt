@@ -3,7 +3,8 @@
 ghost use Rattle.std.specs.Prelude.{IfSome};
 ghost use Rattle.std.specs.Thread.{IsSync};
 ghost use Rattle.seat_views.specs.States.{IsNoteOf};
-ghost use Rattle.tour.specs.Tour.{AreOn, HaveNotes, IsReady, IsReadyRoot};
+ghost use Rattle.seat_views.specs.Trials.{IsReady, IsReadyRoot};
+ghost use Rattle.tour.specs.Tour.{AreOn, HaveNotes};
 
 use crate::shared::{Shared, give};
 use op_table::{LoadOrder, Order, StoreOrder};

@@ -1,4 +1,4 @@
-use Rattle.tour.specs.Tour.{IsReady}
+use Rattle.seat_views.specs.Trials.{IsReady}
 use Rattle.tour.proofs.visits.add_by_exchange.Given as goal
 
 abbrev pub invariant-loop : goal.invariant-loop
