@@ -21,9 +21,9 @@ pub record ArenaState : Type 0 where
   pub shape : Shape
   pub first_stamp : ℕ
 
--- a pass: its arena and shape, its number, what it has seen, its own entries, its steps, its loads of word 0, which are no
--- items of its steps, and the call in flight; of the root's pass besides the count of numbers given, and the passes that were
--- taken back
+-- a pass: its arena and shape, its number, what it has seen, its own entries, its steps, how many loads of word 0 it made
+-- aside, which are no items of its steps, and the call in flight; of the root's pass besides the count of numbers given,
+-- and the passes that were taken back. Each atomic step of a pass is an item of its steps, or is counted aside
 pub record PassState : Type 0 where
   pub arena : TableId
   pub shape : Shape
