@@ -16,7 +16,7 @@ use Rattle.seat_views.specs.Makes.{EarnsOwn}
 use Rattle.runner.specs.declared.worker.Worker.{Worker}
 use Rattle.whole_run.specs.declared.taken.Taken.{Taken}
 use Rattle.place_core.specs.Pieces.{script_lines}
-use Rattle.whole_run.specs.Stages.{root_of, IsDone, AreDone, OwnEarned, IsBack, AreBack, HasBack, HasRoom}
+use Rattle.whole_run.specs.Stages.{IsDone, AreDone, OwnEarned, IsBack, AreBack, HasBack, HasRoom}
 use Rattle.whole_run.proofs.Threads.{AreBack-later, AreBack-more}
 
 -- what was taken back of all workers, where these are left
@@ -57,7 +57,7 @@ HasBack-more a given j scripts replies w p q h at done t =
     record {
       now =
           let count : given + 2 * length scripts + 2 ≡ given + 2 * length (scripts ++ script_lines w.script ∷ []) = omega (arith, length-append scripts (script_lines w.script ∷ [])) in
-          t.rest ∙ (λ k. record (root_of a given) { seen = q.seen; aside = (ap (λ (r : PassState). r.aside + 2) h.now ∙ count) k; ended = ended k });
+          t.rest ∙ (λ k. record (h.now k) { seen = q.seen; aside = (ap (λ (r : PassState). r.aside + 2) h.now ∙ count) k; ended = ended k });
       kept = t.kept;
       back = subst (AreBack a.shape q.seen 1 (scripts ++ script_lines w.script ∷ []) (replies ++ w.replies ∷ [])) ended back;
     }
