@@ -23,7 +23,7 @@ use Rattle.seat_views.specs.Makes.{MakesCall}
 abbrev pub HasNoLane : Shape → ℕ → Type 0
 HasNoLane S o = (place_of S o ≡ None) ⊎ HasParts S o
 
--- the pass made the call, by one step
+-- the pass made the call, by one step and no load aside
 pub record MakesAtOnce (S : Shape) (o : ℕ) (call : Call) (p : PassState) (r : Reply) (q : PassState) : Type 0 where
   pub made : MakesCall S o call p r q
   pub one : length made.steps ≡ 1

@@ -55,7 +55,7 @@ impl Lane {
         self.object
     }
 
-    /// Loads the lane's value, in one step.
+    /// Loads the lane's value, in one atomic step: one item, and no load aside.
     pub fn load(self, arena: &Arena, pass: &mut Pass) -> u128
         requires arena { IsOf arena.now pass.old }
         requires lane { HasLane arena.now.shape self }
@@ -68,7 +68,7 @@ impl Lane {
         }
     }
 
-    /// Makes a call whose plan is one step, by that step.
+    /// Makes a call whose plan is one step, by that step: one item, and no load aside.
     pub fn one(self, arena: &Arena, pass: &mut Pass, call: &Call) -> Reply
         requires arena { IsOf arena.now pass.old }
         requires lane { HasLane arena.now.shape self }
@@ -84,7 +84,8 @@ impl Lane {
     }
 
     /// Exchanges `expected` for `new`, as `compare_exchange_weak`: in one step where the plan is one, and else by a
-    /// look and one try. It fails with the expected value only where the try found another word than the look.
+    /// look and one try, and no load aside. It fails with the expected value only where the try found another word than
+    /// the look.
     pub fn cas_weak(self, arena: &Arena, pass: &mut Pass, expected: u128, new: u128) -> Reply
         requires arena { IsOf arena.now pass.old }
         requires lane { HasLane arena.now.shape self }

@@ -21,7 +21,7 @@ use Rattle.seat_views.specs.declared.view.View.{View}
 use Rattle.seat_views.specs.Places.{IsLegalIn}
 use Rattle.seat_views.specs.Rule.{first_view, spent_view, kept_of, known_of, party_at, party_of, is_live, caller_of, number_of_ended, entries_of_ended, History}
 use Rattle.seat_views.specs.Steps.{caught_up, grown, moved, IsSoundView}
-use Rattle.seat_views.specs.Moves.{giver, newcomer, joining, ended_pass, taken_back, note_view, meeting, met}
+use Rattle.seat_views.specs.Moves.{giver, newcomer, joining, ended_pass, taken_back, noting, note_view, meeting, met}
 use Rattle.seat_views.proofs.ShapePlaces.{legal_more}
 
 -- a pass as the history sees it
@@ -82,10 +82,10 @@ module _ (S : Shape) (log : List Entry) (count : ℕ) (owner : ℕ → Option �
     }
 
     -- a note of what the pass has seen
-    pub history_notes : History S log count owner (set views id v ++ note_view v ∷ [])
+    pub history_notes : History S log count owner (set views id (noting v) ++ note_view v ∷ [])
     history_notes = record {
-      passes = passes_note party_of (IsLegalIn S) caller_of number_of_ended entries_of_ended log count owner views h.passes id v at v (note_view v) (known_of v) (party_pass v is) (party_pass v is) refl;
-      shapes = seats_split (λ j d. is_live d.role ≡ true → d.shape ≡ S) views id v (note_view v) (h.shapes id v at) (λ _. shape_is) (λ j d _ there. h.shapes j d there);
+      passes = passes_note party_of (IsLegalIn S) caller_of number_of_ended entries_of_ended log count owner views h.passes id v at (noting v) (note_view v) (known_of v) (party_pass v is) (party_pass (noting v) is) refl;
+      shapes = seats_split (λ j d. is_live d.role ≡ true → d.shape ≡ S) views id (noting v) (note_view v) (h.shapes id v at) (λ _. shape_is) (λ j d _ there. h.shapes j d there);
     }
 
     module _ (other : ℕ) (e : View) (apart : other ≢ id) (there : get_elem? views other ≡ some e) (alone : v.beside ≡ beside.Nobody) where
@@ -106,11 +106,11 @@ module _ (S : Shape) (log : List Entry) (count : ℕ) (owner : ℕ → Option �
       }
 
     -- the pass that was kept is taken in
-    pub history_learns : (n : ℕ) (seen mine : List Entry) (trail : List Item) → v.beside ≡ beside.Pass n seen mine trail
-        → History S log count owner (set views id (taken_back v n seen mine trail)) × IsPrefix v.seen (longer v.seen seen) × IsPrefix seen (longer v.seen seen)
-    history_learns n seen mine trail held =
-        let w : View = taken_back v n seen mine trail in
-        let t = passes_end party_of (IsLegalIn S) caller_of number_of_ended entries_of_ended log count owner views h.passes id v at (known_of v) (party_pass v is) n seen mine (ended_pass n mine trail) w (ap kept_of held) refl refl (party_pass w is) in
+    pub history_learns : (n : ℕ) (seen mine : List Entry) (trail : List Item) (aside : ℕ) → v.beside ≡ beside.Pass n seen mine trail aside
+        → History S log count owner (set views id (taken_back v n seen mine trail aside)) × IsPrefix v.seen (longer v.seen seen) × IsPrefix seen (longer v.seen seen)
+    history_learns n seen mine trail aside held =
+        let w : View = taken_back v n seen mine trail aside in
+        let t = passes_end party_of (IsLegalIn S) caller_of number_of_ended entries_of_ended log count owner views h.passes id v at (known_of v) (party_pass v is) n seen mine (ended_pass n mine trail aside) w (ap kept_of held) refl refl (party_pass w is) in
         (record { passes = t.0; shapes = seats_stay (λ j d. is_live d.role ≡ true → d.shape ≡ S) views id w (h.shapes id v at) (λ j d _ there. h.shapes j d there) }, t.1, t.2)
 
     -- the note that was kept is taken in

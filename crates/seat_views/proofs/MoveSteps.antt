@@ -20,7 +20,7 @@ use Rattle.seat_views.specs.declared.view.View.{View}
 use Rattle.seat_views.specs.Rule.{spent_view, caller_of, History, HoldsUnder, ArenaHolds}
 use Rattle.seat_views.specs.Steps.{IsSoundView}
 use Rattle.seat_views.specs.LockSteps.{IsGlance}
-use Rattle.seat_views.specs.Moves.{giver, newcomer, joining, taken_back, TakesFrom, back_tells, note_view, meeting, met, HearsFrom, meet_tells, dropped}
+use Rattle.seat_views.specs.Moves.{giver, newcomer, joining, taken_back, TakesFrom, back_tells, noting, note_view, meeting, met, HearsFrom, meet_tells, dropped}
 use Rattle.seat_views.proofs.Frames.{Flights, all_same, flights_of, flights_set, flights_same, flights_split, flights_join, parts_frame, glances_frame}
 use Rattle.seat_views.proofs.Histories.{history_same, history_gives, history_notes, history_joins, history_meets, history_learns, history_hears, sound_set}
 
@@ -57,12 +57,12 @@ joins k id v other e is zero_is alone too empty idle s r at apart there =
     (flights_join k.shape r.log r.locks s.words s.views (old_flights k s r) id v at (joining v e) refl other e spent_view apart there' idle refl)
 
 -- the load that follows compares the two histories
-pub learns : (k : Opening) (slots id : ℕ) (m : Me (Unit {0}) View) (n : ℕ) (seen mine : List Entry) (trail : List Item) → m.0.role ≡ role.Pass → m.0.beside ≡ beside.Pass n seen mine trail
+pub learns : (k : Opening) (slots id : ℕ) (m : Me (Unit {0}) View) (n : ℕ) (seen mine : List Entry) (trail : List Item) (aside : ℕ) → m.0.role ≡ role.Pass → m.0.beside ≡ beside.Pass n seen mine trail aside
     → Allows (ArenaHolds k) slots id m 0 (λ x. x) (λ _ w. back_tells m w)
-learns k slots id m n seen mine trail is held s r _ at _ =
+learns k slots id m n seen mine trail aside is held s r _ at _ =
     let v : View = m.0 in
-    let w : View = taken_back v n seen mine trail in
-    let h = history_learns k.shape r.log r.count r.owner s.views r.history id v at is n seen mine trail held in (
+    let w : View = taken_back v n seen mine trail aside in
+    let h = history_learns k.shape r.log r.count r.owner s.views r.history id v at is n seen mine trail aside held in (
       w,
       keeps,
       tt,
@@ -75,10 +75,10 @@ learns k slots id m n seen mine trail is held s r _ at _ =
     )
 
 -- a note of all that was seen
-pub notes : (k : Opening) (id : ℕ) (v : View) → v.role ≡ role.Pass → Splits (ArenaHolds k) id v v (note_view v)
-notes k id v is s r at = rests k s r r.count r.owner (set s.views id v ++ note_view v ∷ [])
+pub notes : (k : Opening) (id : ℕ) (v : View) → v.role ≡ role.Pass → Splits (ArenaHolds k) id v (noting v) (note_view v)
+notes k id v is s r at = rests k s r r.count r.owner (set s.views id (noting v) ++ note_view v ∷ [])
     (history_notes k.shape r.log r.count r.owner s.views r.history id v at is)
-    (flights_split k.shape r.log r.locks s.words s.views (old_flights k s r) id v at v refl (note_view v) refl)
+    (flights_split k.shape r.log r.locks s.words s.views (old_flights k s r) id v at (noting v) refl (note_view v) refl)
 
 -- a note is kept beside the pass's view, and its own view is spent
 pub meets : (k : Opening) (id : ℕ) (v : View) (other : ℕ) (e : View) → v.role ≡ role.Pass → v.beside ≡ beside.Nobody → e.role ≡ role.Note → e.flight ≡ Idle → Joins (ArenaHolds k) id v other e (meeting v e) spent_view

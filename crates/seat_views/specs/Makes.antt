@@ -12,7 +12,8 @@ use Rattle.seat_views.specs.Steps.{entry}
 use Rattle.seat_views.specs.States.{PassState, IsKept}
 use Rattle.seat_views.specs.Paths.{IsPath, ArePaths}
 
--- the pass made a call on object o, with this reply, by these steps: the call's entry is the last that is seen
+-- the pass made a call on object o, with this reply, by these steps and no load aside: the call's entry is the last that is
+-- seen
 pub record MakesEntry (o : ℕ) (call : Call) (p : PassState) (r : Reply) (steps : List Item) (q : PassState) : Type 0 where
   pub between : List Entry
   pub seen : q.seen ≡ (p.seen ++ between) ++ entry p.number o call r ∷ []
@@ -40,8 +41,8 @@ entries_with c (a ∷ calls) (r ∷ rs) = entry c a.0 a.1 r ∷ entries_with c c
 abbrev pub EarnsOwn : Shape → ℕ → List Entry → List Entry → Type 0
 EarnsOwn S c H more = Each (λ G x. x.caller ≡ c → IsSpuriousEntry x → IsEarned S (H ++ G) x) more
 
--- the pass made these calls, in order, with these replies, by these steps: its own entries are one for each call, what is
--- seen begins with all that was, each failure of its own is earned, and nothing is in flight
+-- the pass made these calls, in order, with these replies, by these steps and no load aside: its own entries are one for
+-- each call, what is seen begins with all that was, each failure of its own is earned, and nothing is in flight
 pub record Makes (S : Shape) (calls : List (ℕ × Call)) (p : PassState) (replies : List Reply) (steps : List Item) (q : PassState) : Type 0 where
   pub more : List Entry
   pub count : length replies ≡ length calls

@@ -23,20 +23,20 @@ use Rattle.seat_views.specs.PartLists.{look_up, got, HasAll}
 
 -- the root's view at the start
 abbrev pub first_view : Opening → View
-first_view k = record { role = role.Pass; shape = k.shape; number = 0; seen = []; mine = []; trail = []; flight = Idle; beside = beside.Nobody; given = 0; ended = [] }
+first_view k = record { role = role.Pass; shape = k.shape; number = 0; seen = []; mine = []; trail = []; aside = 0; flight = Idle; beside = beside.Nobody; given = 0; ended = [] }
 
 abbrev pub empty_shape : Shape
 empty_shape = record { word_bits = 0; steps = record { swap = false; add = false; bits = false; order = false }; section = false; words = 0; locks = 0; objects = [] }
 
 -- what is left of a view that was joined to another
 abbrev pub spent_view : View
-spent_view = record { role = role.Spent; shape = empty_shape; number = 0; seen = []; mine = []; trail = []; flight = Idle; beside = beside.Nobody; given = 0; ended = [] }
+spent_view = record { role = role.Spent; shape = empty_shape; number = 0; seen = []; mine = []; trail = []; aside = 0; flight = Idle; beside = beside.Nobody; given = 0; ended = [] }
 
 -- ---- the history
 
 abbrev pub kept_of : Beside → Kept Entry
 kept_of beside.Nobody = NoneKept
-kept_of (beside.Pass n seen mine trail) = PassKept n seen mine
+kept_of (beside.Pass n seen mine trail aside) = PassKept n seen mine
 kept_of (beside.Note seen) = NoteKept seen
 
 -- what the history is told of a view

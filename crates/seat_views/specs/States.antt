@@ -21,8 +21,9 @@ pub record ArenaState : Type 0 where
   pub shape : Shape
   pub first_stamp : ℕ
 
--- a pass: its arena and shape, its number, what it has seen, its own entries, its steps, and the call in flight; of the
--- root's pass besides the count of numbers given, and the passes that were taken back
+-- a pass: its arena and shape, its number, what it has seen, its own entries, its steps, how many loads of word 0 it made
+-- aside, which are no items of its steps, and the call in flight; of the root's pass besides the count of numbers given,
+-- and the passes that were taken back. Each atomic step of a pass is an item of its steps, or is counted aside
 pub record PassState : Type 0 where
   pub arena : TableId
   pub shape : Shape
@@ -30,6 +31,7 @@ pub record PassState : Type 0 where
   pub seen : List Entry
   pub mine : List Entry
   pub trail : List Item
+  pub aside : ℕ
   pub flight : Flight
   pub given : ℕ
   pub ended : List Ended
@@ -43,7 +45,7 @@ abbrev pub arena_of : TableId → Opening → ArenaState
 arena_of z k = record { id = z; shape = k.shape; first_stamp = k.first_stamp }
 
 abbrev pub state_of : TableId → View → PassState
-state_of z v = record { arena = z; shape = v.shape; number = v.number; seen = v.seen; mine = v.mine; trail = v.trail; flight = v.flight; given = v.given; ended = v.ended }
+state_of z v = record { arena = z; shape = v.shape; number = v.number; seen = v.seen; mine = v.mine; trail = v.trail; aside = v.aside; flight = v.flight; given = v.given; ended = v.ended }
 
 abbrev pub note_of : TableId → View → NoteState
 note_of z v = record { arena = z; shape = v.shape; seen = v.seen }
@@ -92,12 +94,12 @@ pub record Moved (p : PassState) (i : Item) (f : Flight) (q : PassState) : Type 
 
 -- the pass of that number begins: what it has seen is what its root has
 abbrev pub new_pass : PassState → PassState
-new_pass p = record { arena = p.arena; shape = p.shape; number = p.given + 1; seen = p.seen; mine = []; trail = []; flight = Idle; given = 0; ended = [] }
+new_pass p = record { arena = p.arena; shape = p.shape; number = p.given + 1; seen = p.seen; mine = []; trail = []; aside = 0; flight = Idle; given = 0; ended = [] }
 
--- the root gave a number, which was left
+-- the root gave a number, which was left, by one load of word 0
 pub record Gives (p new q : PassState) : Type 0 where
   pub left : p.given < 65535
-  pub root : q ≡ record p { given = p.given + 1 }
+  pub root : q ≡ record p { aside = p.aside + 1; given = p.given + 1 }
   pub pass : new ≡ new_pass p
   pub kept : IsKept q
   pub new_kept : IsKept new
@@ -108,34 +110,34 @@ pub record GivesNone (p q : PassState) : Type 0 where
   pub root : q ≡ p
   pub kept : IsKept q
 
--- the root took the pass e back
+-- the root took the pass e back, by two loads of word 0
 pub record TakesBack (p e q : PassState) : Type 0 where
   pub old : IsPrefix p.seen q.seen
   pub other : IsPrefix e.seen q.seen
-  pub rest : q ≡ record p { seen = q.seen; ended = p.ended ++ record { number = e.number; entries = e.mine; trail = e.trail } ∷ [] }
+  pub rest : q ≡ record p { seen = q.seen; aside = p.aside + 2; ended = p.ended ++ record { number = e.number; entries = e.mine; trail = e.trail; aside = e.aside } ∷ [] }
   pub kept : IsKept q
 
--- the pass met a note
+-- the pass met a note, by two loads of word 0
 pub record Meets (p : PassState) (n : NoteState) (q : PassState) : Type 0 where
   pub old : IsPrefix p.seen q.seen
   pub other : IsPrefix n.seen q.seen
-  pub rest : q ≡ record p { seen = q.seen }
+  pub rest : q ≡ record p { seen = q.seen; aside = p.aside + 2 }
   pub kept : IsKept q
 
--- the pass gave a note, and stays
+-- the pass gave a note, by one load of word 0, and stays else
 pub record Notes (p : PassState) (n : NoteState) (q : PassState) : Type 0 where
-  pub pass : q ≡ p
+  pub pass : q ≡ record p { aside = p.aside + 1 }
   pub note : n ≡ record { arena = p.arena; shape = p.shape; seen = p.seen }
   pub kept : IsKept q
 
--- the pass dropped a glance
+-- the pass dropped a glance, by one load of word 0
 pub record Drops (p q : PassState) : Type 0 where
-  pub now : q ≡ record p { flight = Idle }
+  pub now : q ≡ record p { aside = p.aside + 1; flight = Idle }
   pub kept : IsKept q
 
 -- the root's pass at the start
 abbrev pub first_pass : ArenaState → PassState
-first_pass a = record { arena = a.id; shape = a.shape; number = 0; seen = []; mine = []; trail = []; flight = Idle; given = 0; ended = [] }
+first_pass a = record { arena = a.id; shape = a.shape; number = 0; seen = []; mine = []; trail = []; aside = 0; flight = Idle; given = 0; ended = [] }
 
 -- an arena was opened: the history is empty, no number was given, and nothing is in flight
 pub record Opens (S : Shape) (first : ℕ) (a : ArenaState) (p : PassState) : Type 0 where

@@ -66,7 +66,7 @@ pub record HasGlanced (a : ArenaState) (o : ℕ) (p : PassState) : Type 0 where
 
 -- the two passes stand last among those that ended
 pub record EndsBoth (p one two q : PassState) : Type 0 where
-  pub ended : q.ended ≡ (p.ended ++ ended_pass one.number one.mine one.trail ∷ []) ++ ended_pass two.number two.mine two.trail ∷ []
+  pub ended : q.ended ≡ (p.ended ++ ended_pass one.number one.mine one.trail one.aside ∷ []) ++ ended_pass two.number two.mine two.trail two.aside ∷ []
 
 -- a glance that has read the first n parts
 pub record SeesParts (a : ArenaState) (o n : ℕ) (p : PassState) : Type 0 where

@@ -71,7 +71,7 @@ impl Pass {
         }
     }
 
-    /// Gives the next number to a new pass.
+    /// Gives the next number to a new pass, by one load that is counted aside.
     pub(crate) fn give(&mut self, arena: &Arena) -> Result<Pass, Full>
         requires arena { IsOf arena.now self.old }
         requires root { self.old.number ≡ 0 }
@@ -87,7 +87,7 @@ impl Pass {
         Ok(Pass::of(given, 0, seat))
     }
 
-    /// Ends a pass, and sees all that it has seen.
+    /// Ends a pass, and sees all that it has seen, by two loads that are counted aside.
     pub(crate) fn take_back(&mut self, arena: &Arena, pass: Pass)
         requires arena { IsOf arena.now self.old × IsOf arena.now pass }
         requires root { self.old.number ≡ 0 }
@@ -110,7 +110,7 @@ impl Pass {
         self.number
     }
 
-    /// Gives a note of all that the pass has seen.
+    /// Gives a note of all that the pass has seen, by one load of word 0, which is counted aside.
     pub fn note(&mut self, arena: &Arena) -> Note
         requires arena { IsOf arena.now self.old }
         requires rest { self.old.flight ≡ Idle }
@@ -119,7 +119,7 @@ impl Pass {
         Note::of(arena.table.shared.split_seat::<rule::Notes>(&mut self.seat))
     }
 
-    /// Takes a note in: the pass has then seen what the note tells.
+    /// Takes a note in, by two loads of word 0, which are counted aside: the pass has then seen what the note tells.
     pub fn meet(&mut self, arena: &Arena, note: Note)
         requires arena { IsOf arena.now self.old × IsNoteOf arena.now note }
         requires rest { self.old.flight ≡ Idle }
@@ -133,7 +133,7 @@ impl Pass {
         arena.table.shared.load::<rule::Hears>(&mut self.seat, 0);
     }
 
-    /// Ends a glance that isn't to be matched.
+    /// Ends a glance that isn't to be matched, by one load of word 0, which is counted aside.
     pub fn drop_glance(&mut self, arena: &Arena)
         requires arena { IsOf arena.now self.old }
         requires glance { IsGlance self.old.flight }

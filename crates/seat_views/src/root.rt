@@ -33,6 +33,7 @@ impl Root {
     }
 
     /// A new pass with the next number, from 1 on. It has seen what the root has. Full where 65,535 numbers were given.
+    /// That costs the root one load of word 0, which is counted aside.
     pub fn pass(&mut self, arena: &Arena) -> Result<Pass, Full>
         requires arena { IsOf arena.now self.old }
         requires root { self.old.number ≡ 0 }
@@ -42,7 +43,8 @@ impl Root {
         self.pass.give(arena)
     }
 
-    /// Ends a pass. The root has then seen all that it has seen, and keeps its number, its entries and its steps.
+    /// Ends a pass. The root has then seen all that it has seen, and keeps its number, its entries, its steps and its loads
+    /// aside. That costs the root two loads of word 0, which are counted aside.
     pub fn take_back(&mut self, arena: &Arena, pass: Pass)
         requires arena { IsOf arena.now self.old × IsOf arena.now pass }
         requires root { self.old.number ≡ 0 }

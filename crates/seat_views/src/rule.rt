@@ -158,9 +158,9 @@ impl Play<(), View> for Learns {
 pub(crate) struct Notes;
 
 impl Split<View> for Notes {
-    ghost use Rattle.seat_views.specs.Moves.{same_view, note_view};
+    ghost use Rattle.seat_views.specs.Moves.{noting, note_view};
 
-    ghost left = { same_view };
+    ghost left = { noting };
 
     ghost right = { note_view };
 }

@@ -42,11 +42,12 @@ pub struct Item {
     pub number: Option<u64>,
 }
 
-/// A pass that was taken back: its number, its own entries and its steps, in order.
+/// A pass that was taken back: its number, its own entries and its steps, in order, and how many loads it made aside.
 pub struct Ended {
     pub number: u32,
     pub entries: LinkedList<Entry>,
     pub trail: LinkedList<Item>,
+    pub aside: u64,
 }
 
 /// The call in flight. Parts are pairs of a part's number and what it holds, the latest first.
@@ -70,14 +71,16 @@ pub enum Role {
 /// A view that was joined to this one, and whose history is not yet compared with this one's.
 pub enum Beside {
     Nobody,
-    /// A pass: its number, what it has seen, its own entries and its steps.
-    Pass(u32, LinkedList<Entry>, LinkedList<Entry>, LinkedList<Item>),
+    /// A pass: its number, what it has seen, its own entries, its steps and its loads aside.
+    Pass(u32, LinkedList<Entry>, LinkedList<Entry>, LinkedList<Item>, u64),
     /// A note: what it has seen.
     Note(LinkedList<Entry>),
 }
 
 /// What a seat knows: of a pass its number, the history that it has seen, its own entries, its steps and the call in
-/// flight; of the root's pass besides the count of numbers given, and the passes that were taken back.
+/// flight; of the root's pass besides the count of numbers given, and the passes that were taken back. Each atomic step
+/// of a pass is an item of its trail, or is counted aside: a load of word 0, by which numbers and notes are given, passes
+/// and notes are taken in, and glances are dropped.
 pub struct View {
     pub role: Role,
     pub shape: Shape,
@@ -85,6 +88,7 @@ pub struct View {
     pub seen: LinkedList<Entry>,
     pub mine: LinkedList<Entry>,
     pub trail: LinkedList<Item>,
+    pub aside: u64,
     pub flight: Flight,
     pub beside: Beside,
     pub given: u32,

@@ -70,6 +70,7 @@ module _ (S : Shape) (H : List Entry) (given : ℕ) where
       number = all.0.number;
       entries = sym known.0.own ∙ ap (entries_by H) all.0.number;
       paths = subst (λ (t : List Reply). ArePaths S (asked_by script) t d.trail) (sym (replies_are i script r d known.0 all.0)) all.0.paths;
+      aside = all.0.aside;
     },
     ended_as (i + 1) scripts rs ds known.1 all.1,
   )
@@ -228,5 +229,6 @@ module _ (S : Shape) (a : ArenaState) (scripts : List (List Line)) (rs : List Re
     loads =
         let trail_is : q.trail ≡ m.steps = ap (λ (r : PassState). r.trail) m.made.rest ∙ ap (λ (l : List Item). l ++ m.steps) (ap (λ (r : PassState). r.trail) h.now) in
         subst (λ (x : List Reply × List Item). ArePaths S (loads_from 0 (cells_of_shape S)) x.0 x.1) (λ i. (last_replies i, sym trail_is i)) m.paths;
+    aside = ap (λ (r : PassState). r.aside) m.made.rest ∙ (ap (λ (r : PassState). r.aside) h.now ∙ omega arith);
     kept = m.made.kept;
   }

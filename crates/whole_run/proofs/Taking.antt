@@ -1,5 +1,5 @@
 -- Passes that are taken back one after another.
-use Rattle.std.proofs.Common.{◌≡◌, ℕ, ◌+◌, List, [], ◌∷◌, ◌++◌, length, map, ap, sym, ◌∙◌, subst, arith, append_assoc, length-append}
+use Rattle.std.proofs.Common.{◌≡◌, ℕ, ◌+◌, ◌*◌, List, [], ◌∷◌, ◌++◌, length, map, ap, sym, ◌∙◌, subst, arith, append_assoc, length-append}
 use Rattle.std.proofs.lemmas.List.{length-map, map-append}
 use Rattle.place_core.specs.declared.entry.Entry.{Entry}
 use Rattle.place_core.specs.declared.script.Line.{Line}
@@ -32,7 +32,7 @@ earned_alone : (S : Shape) (i : ℕ) (more seen : List Entry) → seen ≡ [] ++
 earned_alone S i more seen is earned = subst (OwnEarned S i) (sym is) earned
 
 IsDone-back : (a : ArenaState) (i : ℕ) (w : Worker) (p q : PassState) → IsDone a i w → TakesBack p w.pass q
-    → IsBack a.shape q.seen i (script_lines w.script) w.replies (record { number = w.pass.number; entries = w.pass.mine; trail = w.pass.trail })
+    → IsBack a.shape q.seen i (script_lines w.script) w.replies (record { number = w.pass.number; entries = w.pass.mine; trail = w.pass.trail; aside = w.pass.aside })
 IsDone-back a i w p q m t =
     let e = w.pass in
     let number : e.number ≡ i = ap (λ (r : PassState). r.number) m.made.rest in
@@ -41,6 +41,7 @@ IsDone-back a i w p q m t =
       count = m.made.count;
       entries = ap (λ (r : PassState). r.mine) m.made.rest;
       paths = subst (λ (l : List Item). ArePaths a.shape (asked_by (script_lines w.script)) w.replies.items l) trail m.paths;
+      aside = ap (λ (r : PassState). r.aside) m.made.rest;
       seen = e.seen;
       front = t.other;
       own = ap (entries_by e.seen) (sym number) ∙ m.made.kept.own;
@@ -50,11 +51,13 @@ IsDone-back a i w p q m t =
 HasBack-more : (a : ArenaState) (given j : ℕ) (scripts : List (List Line)) (replies : List RepliesState) (w : Worker) (p q : PassState) → HasBack a given scripts replies p → j ≡ 1 + length scripts → IsDone a j w → TakesBack p w.pass q
     → HasBack a given (scripts ++ script_lines w.script ∷ []) (replies ++ w.replies ∷ []) q
 HasBack-more a given j scripts replies w p q h at done t =
-    let d : Ended = record { number = w.pass.number; entries = w.pass.mine; trail = w.pass.trail } in
+    let d : Ended = record { number = w.pass.number; entries = w.pass.mine; trail = w.pass.trail; aside = w.pass.aside } in
     let ended : p.ended ++ d ∷ [] ≡ q.ended = sym (ap (λ (r : PassState). r.ended) t.rest) in
     let back = AreBack-more a.shape q.seen 1 j scripts (script_lines w.script) replies w.replies p.ended d (AreBack-later a.shape p.seen q.seen 1 scripts replies p.ended t.old h.back) at (IsDone-back a j w p q done t) in
     record {
-      now = t.rest ∙ (λ k. record (h.now k) { seen = q.seen; ended = ended k });
+      now =
+          let count : given + 2 * length scripts + 2 ≡ given + 2 * length (scripts ++ script_lines w.script ∷ []) = omega (arith, length-append scripts (script_lines w.script ∷ [])) in
+          t.rest ∙ (λ k. record (h.now k) { seen = q.seen; aside = (ap (λ (r : PassState). r.aside + 2) h.now ∙ count) k; ended = ended k });
       kept = t.kept;
       back = subst (AreBack a.shape q.seen 1 (scripts ++ script_lines w.script ∷ []) (replies ++ w.replies ∷ [])) ended back;
     }

@@ -70,6 +70,7 @@ IsBack-later S H K i script r d longer b = record {
   count = b.count;
   entries = b.entries;
   paths = b.paths;
+  aside = b.aside;
   seen = b.seen;
   front = prefix_trans b.seen H K b.front longer;
   own = b.own;

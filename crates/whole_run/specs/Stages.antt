@@ -1,5 +1,5 @@
 -- The passes of a whole run: as they are given, after their scripts were run, and once the root took them back.
-use Rattle.std.specs.Prelude.{◌≡◌, ℕ, ◌+◌, ◌≤◌, List, [], ◌∷◌, length, vec_len, vec_capacity}
+use Rattle.std.specs.Prelude.{◌≡◌, ℕ, ◌+◌, ◌*◌, ◌≤◌, List, [], ◌∷◌, length, vec_len, vec_capacity}
 use mathlib.Core.List.{IsPrefix}
 use Rattle.place_core.specs.declared.entry.Entry.{Entry}
 use Rattle.place_core.specs.declared.script.Line.{Line}
@@ -19,9 +19,9 @@ use Rattle.whole_run.specs.declared.taken.Taken.{Taken}
 
 -- ---- passes given
 
--- the root of a new arena after it gave this many numbers
+-- the root of a new arena after it gave this many numbers, each by a load aside
 abbrev pub root_of : ArenaState → ℕ → PassState
-root_of a given = record (first_pass a) { given = given }
+root_of a given = record (first_pass a) { aside = given; given = given }
 
 -- the pass of number i of a new arena, before its first step
 abbrev pub pass_of : ArenaState → ℕ → PassState
@@ -61,13 +61,14 @@ AreDone a i (w ∷ ws) = IsDone a i w × AreDone a (i + 1) ws
 abbrev pub OwnEarned : Shape → ℕ → List Entry → Type 0
 OwnEarned S c H = Each (λ G x. x.caller ≡ c → IsSpuriousEntry x → IsEarned S G x) H
 
--- what the root keeps of the pass of number i: its entries are the script's calls with the replies, by their paths; what
--- the pass had seen begins what the root has seen, and its own failures there were earned
+-- what the root keeps of the pass of number i: its entries are the script's calls with the replies, by their paths, and
+-- it made no load aside; what the pass had seen begins what the root has seen, and its own failures there were earned
 pub record IsBack (S : Shape) (H : List Entry) (i : ℕ) (script : List Line) (replies : RepliesState) (d : Ended) : Type 0 where
   pub number : d.number ≡ i
   pub count : length replies.items ≡ length (asked_by script)
   pub entries : d.entries ≡ entries_with i (asked_by script) replies.items
   pub paths : ArePaths S (asked_by script) replies.items d.trail
+  pub aside : d.aside ≡ 0
   pub seen : List Entry
   pub front : IsPrefix seen H
   pub own : entries_by seen i ≡ d.entries
@@ -82,9 +83,10 @@ AreBack S H i (script ∷ scripts) [] ds = ⊥
 AreBack S H i (script ∷ scripts) (r ∷ rs) [] = ⊥
 AreBack S H i (script ∷ scripts) (r ∷ rs) (d ∷ ds) = IsBack S H i script r d × AreBack S H (i + 1) scripts rs ds
 
--- the root of a new arena, which gave this many numbers, and took the passes of these scripts back, in order
+-- the root of a new arena, which gave this many numbers, and took the passes of these scripts back, in order, each by two
+-- loads aside
 pub record HasBack (a : ArenaState) (given : ℕ) (scripts : List (List Line)) (replies : List RepliesState) (p : PassState) : Type 0 where
-  pub now : p ≡ record (root_of a given) { seen = p.seen; ended = p.ended }
+  pub now : p ≡ record (root_of a given) { seen = p.seen; aside = given + 2 * length scripts; ended = p.ended }
   pub kept : IsKept p
   pub back : AreBack a.shape p.seen 1 scripts replies p.ended
 

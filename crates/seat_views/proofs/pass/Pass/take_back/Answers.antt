@@ -10,4 +10,4 @@ join_seat-requires c = let sound = c.self.invariant.3 in let too = c.pass.invari
     (search rules, search rules, search rules, search rules, joins _ _ _ _ _ sound.role zero_is c.self.invariant.4 too.role c.pass.invariant.4 idle)
 
 pub load-requires : goal.load-requires
-load-requires c = let sound = c.self.invariant.3 in rw (c.join_seat.ensures.2) (search rules, search rules, learns _ _ _ _ _ _ _ _ sound.role refl)
+load-requires c = let sound = c.self.invariant.3 in rw (c.join_seat.ensures.2) (search rules, search rules, learns _ _ _ _ _ _ _ _ _ sound.role refl)
