@@ -5,6 +5,7 @@ use mathlib.Core.Logic.{dite}
 use native.Mathlib.Decide.{ℕ_discrete}
 use Rattle.op_table.specs.declared.call.Call.{Call}
 use Rattle.op_table.specs.declared.call.Reply.{Reply}
+use Rattle.op_table.specs.CallTests.{is_weak}
 use Rattle.place_core.specs.declared.entry.Entry.{Entry}
 use Rattle.place_core.specs.declared.places.Path.TheVariants.{Loop}
 use Rattle.place_core.specs.declared.shape.Shape.{Shape}
@@ -20,11 +21,10 @@ use Rattle.seat_views.specs.Deciding.{fails}
 use Rattle.seat_views.specs.Places.{data_of_lane, word_of_lane, lane_at}
 use Rattle.seat_views.specs.Steps.{entry, item}
 use Rattle.seat_views.specs.States.{PassState}
-use Rattle.seat_views.specs.CallTests.{is_weak}
 use Rattle.seat_views.specs.Paths.{is_last_try, eat_loop}
 use Rattle.seat_views.specs.Tries.{LookMade, LookSaw, TryMade, TrySaw}
 use Rattle.seat_views.specs.Makes.{MakesEntry}
-use Rattle.seat_views.proofs.PathPieces.{decides_is, last_try_is, look_goes_on, try_goes_on, try_ends}
+use Rattle.seat_views.proofs.PathPieces.{look_settles_is, last_try_is, look_goes_on, try_goes_on, try_ends}
 use Rattle.lane_word.proofs.LanePieces.{numbered_self, loop_path, no_load, none_before_step, none_first, none_more, none_then_entry}
 use Rattle.lane_word.proofs.LaneSteps.{look_at_once}
 use Rattle.exchange_loop.specs.Turns.{Turns, Turning}
@@ -53,7 +53,7 @@ module _ (S : Shape) (o : ℕ) (call : Call) (lane : HasLane S o) (plan : plan_o
         steps = i ∷ [];
         none = none_first p q i word n h;
         word_is = (λ k. word_of (sym there k) q.seen word) ∙ h.word_is;
-        goes_on = λ U. look_goes_on (lane_at S o) (word_of_lane S o) call i U (numbered_self kind.Look (word_of_lane S o) n) (sym (decides_is call (lane_at S o n) (no_load S o call lane plan)) ∙ saw.undecided);
+        goes_on = λ U. look_goes_on (lane_at S o) (word_of_lane S o) call i U (numbered_self kind.Look (word_of_lane S o) n) (sym (look_settles_is call (lane_at S o n) (no_load S o call lane plan)) ∙ saw.undecided);
         lost = 0;
         count = refl;
         paid = omega arith;

@@ -1,7 +1,7 @@
 //! Helpers of the tests: arenas, and calls on lanes that may not be there.
 
 ghost use Rattle.std.specs.Prelude.{◌≡◌, IfSome};
-ghost use Rattle.seat_views.specs.CallTests.{is_weak};
+ghost use Rattle.op_table.specs.CallTests.{is_weak};
 ghost use Rattle.seat_views.specs.Trials.{IsReady, IsReadyRoot};
 
 use crate::turn_until;

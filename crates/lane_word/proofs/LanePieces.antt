@@ -4,6 +4,7 @@ use Rattle.std.specs.Prelude.{◌&&◌}
 use Rattle.op_table.specs.declared.call.Call.{Call}
 use Rattle.op_table.specs.declared.call.Call.TheVariants.{Load, Store, Swap, Cas, CasWeak, Add, Sub, And, Nand, Or, Xor, Max, Min, Not, Neg, BitSet, BitClear, BitToggle}
 use Rattle.op_table.specs.declared.call.Reply.{Reply}
+use Rattle.op_table.specs.CallTests.{is_load}
 use Rattle.place_core.specs.declared.entry.Entry.{Entry}
 use Rattle.place_core.specs.declared.places.Place.{Place}
 use Rattle.place_core.specs.declared.places.Path.{Path}
@@ -22,7 +23,6 @@ use Rattle.seat_views.specs.Places.{data_in, shift_in, width_in, word_of_lane, l
 use Rattle.seat_views.specs.Steps.{entry, item, op_item}
 use Rattle.seat_views.specs.States.{PassState, IsKept, AppendsAt, Looked}
 use Rattle.seat_views.specs.Items.{kind_code, is_numbered}
-use Rattle.seat_views.specs.CallTests.{is_load}
 use Rattle.seat_views.specs.Paths.{eat_one_step, eat_turns, eat_loop, eat_by, IsPath}
 use Rattle.seat_views.specs.Makes.{MakesEntry}
 use Rattle.seat_views.proofs.Making.{none_made, none_between, others_make_all}

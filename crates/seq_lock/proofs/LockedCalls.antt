@@ -8,6 +8,7 @@ use Rattle.op_table.specs.declared.call.Call.TheVariants.{Load, Store, Swap, Cas
 use Rattle.op_table.specs.declared.call.Reply.{Reply}
 use Rattle.op_table.specs.declared.call.Reply.TheVariants as reply
 use Rattle.op_table.specs.Call.{after_of, answer_of}
+use Rattle.op_table.specs.CallTests.{has_failed, does_write}
 use Rattle.place_core.specs.declared.shape.Shape.{Shape}
 use Rattle.place_core.specs.Shapes.{kind_of}
 use Rattle.place_core.specs.PartValues.{AreParts}
@@ -21,7 +22,6 @@ use Rattle.seat_views.specs.Places.{parts_of, word_of_lock}
 use Rattle.seat_views.specs.PartLists.{got}
 use Rattle.seat_views.specs.Steps.{item, entry}
 use Rattle.seat_views.specs.LockSteps.{released, stored_by, value_read, HoldsClean, HoldsRead, MayRelease}
-use Rattle.seat_views.specs.CallTests.{has_failed, does_write}
 use Rattle.seat_views.specs.Paths.{eat_just, eat_locked}
 use Rattle.seat_views.specs.States.{PassState, Appends}
 use Rattle.seat_views.specs.LockStates.{Releases}

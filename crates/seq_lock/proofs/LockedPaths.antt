@@ -6,6 +6,7 @@ use Rattle.op_table.specs.declared.call.Call.{Call}
 use Rattle.op_table.specs.declared.call.Call.TheVariants.{Load, Store, Swap, Cas, CasWeak, Add, Sub, And, Nand, Or, Xor, Max, Min, Not, Neg, BitSet, BitClear, BitToggle}
 use Rattle.op_table.specs.declared.call.Reply.{Reply}
 use Rattle.op_table.specs.declared.call.Reply.TheVariants.{Value}
+use Rattle.op_table.specs.CallTests.{is_load, does_write}
 use Rattle.place_core.specs.declared.places.Place.{Place}
 use Rattle.place_core.specs.declared.shape.Shape.{Shape}
 use Rattle.place_core.specs.Shapes.{place_of, kind_of, data_word, lock_word}
@@ -18,7 +19,6 @@ use Rattle.seat_views.specs.Places.{lock_in, first_in, count_in, HasParts, parts
 use Rattle.seat_views.specs.Items.{number_at}
 use Rattle.seat_views.specs.Steps.{item, entry}
 use Rattle.seat_views.specs.LockSteps.{last_stamp}
-use Rattle.seat_views.specs.CallTests.{is_load, does_write}
 use Rattle.seat_views.specs.Paths.{eat_run, eat_locked, eat_glance, eat_by, IsPath}
 use Rattle.seat_views.specs.StepCounts.{IsNoGlance}
 use Rattle.seat_views.specs.States.{PassState}

@@ -3,10 +3,10 @@
 ghost use Rattle.std.specs.Prelude.{◌≡◌, ◌<◌};
 ghost use Rattle.op_table.specs.Kind.{values_of};
 ghost use Rattle.op_table.specs.Call.{CallFits};
+ghost use Rattle.op_table.specs.CallTests.{does_write};
 ghost use Rattle.place_core.specs.Shapes.{kind_of};
 ghost use Rattle.seat_views.specs.declared.view.Flight.TheVariants.{Idle};
 ghost use Rattle.seat_views.specs.Places.{HasParts, parts_of};
-ghost use Rattle.seat_views.specs.CallTests.{does_write};
 ghost use Rattle.seat_views.specs.LockSteps.{HoldsClean, HoldsRead, MayRelease};
 ghost use Rattle.seat_views.specs.States.{IsOf};
 ghost use Rattle.seat_views.specs.LockStates.{Releases};

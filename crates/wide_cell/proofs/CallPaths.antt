@@ -5,6 +5,7 @@ use Rattle.op_table.specs.declared.call.Call.{Call}
 use Rattle.op_table.specs.declared.call.Call.TheVariants.{Load, Store, Swap, Cas, CasWeak, Add, Sub, And, Nand, Or, Xor, Max, Min, Not, Neg, BitSet, BitClear, BitToggle}
 use Rattle.op_table.specs.declared.call.Reply.{Reply}
 use Rattle.op_table.specs.declared.call.Reply.TheVariants.{Value}
+use Rattle.op_table.specs.CallTests.{is_load}
 use Rattle.place_core.specs.declared.shape.Shape.{Shape}
 use Rattle.place_core.proofs.Earning.{table_reply_is_not_spurious}
 use Rattle.seat_views.specs.declared.view.Item.{Item}
@@ -13,7 +14,6 @@ use Rattle.seat_views.specs.declared.view.StepKind.TheVariants as step
 use Rattle.seat_views.specs.Places.{HasParts, parts_of, word_of_lock}
 use Rattle.seat_views.specs.Items.{number_at}
 use Rattle.seat_views.specs.Steps.{item, entry}
-use Rattle.seat_views.specs.CallTests.{is_load}
 use Rattle.seat_views.specs.Paths.{eat_run}
 use Rattle.seat_views.specs.StepCounts.{IsNoGlance}
 use Rattle.seat_views.specs.States.{PassState}

@@ -2,10 +2,10 @@
 
 ghost use Rattle.std.specs.Prelude.{◌≡◌, false};
 ghost use Rattle.op_table.specs.Call.{CallFits};
+ghost use Rattle.op_table.specs.CallTests.{is_load};
 ghost use Rattle.place_core.specs.Shapes.{kind_of};
 ghost use Rattle.seat_views.specs.declared.view.Flight.TheVariants.{Idle};
 ghost use Rattle.seat_views.specs.Places.{HasParts};
-ghost use Rattle.seat_views.specs.CallTests.{is_load};
 ghost use Rattle.seat_views.specs.States.{IsOf};
 ghost use Rattle.seat_views.specs.Makes.{MakesCall};
 ghost use Rattle.seq_lock.specs.Holds.{MakesLocked};

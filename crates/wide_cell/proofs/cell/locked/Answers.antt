@@ -1,8 +1,8 @@
 use Rattle.std.proofs.Common.{◌≡◌, ap, sym, ◌∙◌}
 use Rattle.op_table.specs.declared.call.Reply.{Reply}
 use Rattle.op_table.specs.Call.{answer_of}
+use Rattle.op_table.specs.CallTests.{does_write}
 use Rattle.place_core.specs.Shapes.{kind_of}
-use Rattle.seat_views.specs.CallTests.{does_write}
 use Rattle.seq_lock.proofs.LockedCalls.{may_leave, left_made, put_made}
 use Rattle.wide_cell.proofs.cell.locked.Goals as goal
 
