@@ -46,6 +46,7 @@ fn bits_of_lane(arena: &Arena, lane: Lane) -> Bits
 
 /// Makes a call whose plan is a loop, on an object of the type `V`: looks once, and tries until a try wins or the call
 /// has failed. Each try goes from the word that was found last. It may wait for other threads.
+#[inline(always)]
 pub fn turn_until<V: Scalar, R: Wait>(
     rt: &R,
     arena: &Arena,

@@ -8,7 +8,6 @@ use Rattle.op_table.specs.declared.call.Call.TheVariants.{CasWeak}
 use Rattle.op_table.specs.declared.call.Reply.{Reply}
 use Rattle.op_table.specs.declared.call.Reply.TheVariants as reply
 use Rattle.op_table.specs.Call.{after_of, answer_of}
-use Rattle.op_table.specs.CallTests.{expects_another}
 use Rattle.place_core.specs.declared.entry.Entry.{Entry}
 use Rattle.place_core.specs.declared.places.Path.TheVariants.{One, Loop}
 use Rattle.place_core.specs.declared.places.WordOp.{WordOp}
@@ -54,7 +53,7 @@ pub op_at_once : (S : Shape) (o : ℕ) (call : Call) (done : WordOp) (p : PassSt
 op_at_once S o call done p r q lane plan made =
     made_at_once S o call p r (op_item (word_of_lane S o) done made.found) (data_of_lane S o) made.found (lane_at S o made.found) q made.reply made.appends (one_path S o call r lane done made.found plan)
 
--- a look that decides
+-- a look that settles the call
 pub look_at_once : (S : Shape) (o : ℕ) (call : Call) (p : PassState) (r : Reply) (q : PassState) → HasLane S o → plan_of S o call ≡ Loop → LookMade S o call p r q → MakesAtOnce S o call p r q
 look_at_once S o call p r q lane plan made =
     let n : ℕ = made.found in let i : Item = item (word_of_lane S o) kind.Look n in
@@ -131,11 +130,11 @@ module _ (S : Shape) (ok : IsShape S) (o e x n : ℕ) (p q z : PassState) (r : R
   steps_path : IsPath S o (CasWeak e x) r (look ∷ try ∷ [])
   steps_path = loop_path S o (CasWeak e x) r lane (look ∷ try ∷ []) plan
       (look_goes_on (lane_at S o) (word_of_lane S o) (CasWeak e x) look (try ∷ []) (numbered_self kind.Look (word_of_lane S o) n) saw.undecided
-      ∙ try_ends (lane_at S o) (word_of_lane S o) (CasWeak e x) try [] n (numbered_self kind.Try (word_of_lane S o) made.seen) (weak_ends (made.seen == n) (expects_another (CasWeak e x) (lane_at S o made.seen))))
+      ∙ try_ends (lane_at S o) (word_of_lane S o) (CasWeak e x) try [] n (numbered_self kind.Try (word_of_lane S o) made.seen) (ends (made.seen == n)))
     where
-      weak_ends : (a b : Bool) → (a || true || b) ≡ true
-      weak_ends true b = refl
-      weak_ends false b = refl
+      ends : (won : Bool) → (won || true) ≡ true
+      ends true = refl
+      ends false = refl
 
   -- where the words are one the exchange is done
   won_sure : made.seen ≡ n → r ≢ reply.Failed e
