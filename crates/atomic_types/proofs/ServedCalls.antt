@@ -5,6 +5,7 @@ use Rattle.op_table.specs.declared.call.Call.TheVariants.{CasWeak}
 use Rattle.op_table.specs.declared.call.Reply.{Reply}
 use Rattle.op_table.specs.declared.kind.Width.TheVariants.{W128}
 use Rattle.op_table.specs.Kind.{bits_of}
+use Rattle.op_table.specs.CallTests.{is_weak}
 use Rattle.place_core.specs.declared.places.Place.TheVariants.{Lane}
 use Rattle.place_core.specs.declared.places.WordOp.{WordOp}
 use Rattle.place_core.specs.declared.places.Path.TheVariants.{One, Loop, Locked}
@@ -12,7 +13,6 @@ use Rattle.place_core.specs.declared.shape.Shape.{Shape}
 use Rattle.place_core.specs.Shapes.{kind_of, IsLane, IsShape}
 use Rattle.place_core.specs.Operations.{OpServes, plan_of}
 use Rattle.layout_plan.specs.Laws.{HasLane}
-use Rattle.seat_views.specs.CallTests.{is_weak}
 use Rattle.seat_views.specs.States.{PassState}
 use Rattle.seat_views.specs.Tries.{OpMade}
 use Rattle.seat_views.specs.Makes.{MakesCall}

@@ -2,6 +2,7 @@
 use Rattle.std.specs.Prelude.{◌≡◌, ℕ, ◌+◌, ◌≤◌, true, [], ◌∷◌, ◌++◌, length}
 use Rattle.op_table.specs.declared.call.Call.{Call}
 use Rattle.op_table.specs.declared.call.Reply.{Reply}
+use Rattle.op_table.specs.CallTests.{is_weak}
 use Rattle.place_core.specs.declared.places.WordOp.{WordOp}
 use Rattle.place_core.specs.declared.places.Path.TheVariants.{One, Loop}
 use Rattle.place_core.specs.declared.shape.Shape.{Shape}
@@ -9,7 +10,6 @@ use Rattle.place_core.specs.Operations.{plan_of}
 use Rattle.place_core.specs.Earned.{changes_by_others}
 use Rattle.seat_views.specs.Places.{data_of_lane}
 use Rattle.seat_views.specs.Steps.{entry}
-use Rattle.seat_views.specs.CallTests.{is_weak}
 use Rattle.seat_views.specs.States.{PassState}
 use Rattle.seat_views.specs.Makes.{MakesCall}
 

@@ -2,12 +2,12 @@
 
 ghost use Rattle.std.specs.Prelude.{◌≡◌, ◌<◌, length, true, false, MatchOption};
 ghost use Rattle.op_table.specs.Call.{CallFits};
+ghost use Rattle.op_table.specs.CallTests.{is_weak};
 ghost use Rattle.place_core.specs.declared.places.Path.TheVariants.{Loop, Locked};
 ghost use Rattle.place_core.specs.Shapes.{kind_of};
 ghost use Rattle.place_core.specs.Operations.{plan_of};
 ghost use Rattle.layout_plan.specs.Laws.{HasLane};
 ghost use Rattle.seat_views.specs.declared.view.Flight.TheVariants.{Idle};
-ghost use Rattle.seat_views.specs.CallTests.{is_weak};
 ghost use Rattle.seat_views.specs.States.{IsOf};
 ghost use Rattle.seat_views.specs.Makes.{MakesCall};
 ghost use Rattle.lane_word.specs.LaneCalls.{MakesAtOnce};

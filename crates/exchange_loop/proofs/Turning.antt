@@ -5,6 +5,7 @@ use mathlib.Core.Logic.{dite}
 use native.Mathlib.Decide.{ℕ_discrete}
 use Rattle.op_table.specs.declared.call.Call.{Call}
 use Rattle.op_table.specs.declared.call.Reply.{Reply}
+use Rattle.op_table.specs.CallTests.{is_weak}
 use Rattle.place_core.specs.declared.entry.Entry.{Entry}
 use Rattle.place_core.specs.declared.places.Path.TheVariants.{Loop}
 use Rattle.place_core.specs.declared.shape.Shape.{Shape}
@@ -16,15 +17,14 @@ use Rattle.place_core.proofs.ChangeCounts.{changes_append, lost_counts}
 use Rattle.layout_plan.specs.Laws.{HasLane}
 use Rattle.seat_views.specs.declared.view.StepKind.TheVariants as kind
 use Rattle.seat_views.specs.declared.view.Item.{Item}
-use Rattle.seat_views.specs.Deciding.{fails}
+use Rattle.seat_views.specs.Deciding.{lost_try_settles}
 use Rattle.seat_views.specs.Places.{data_of_lane, word_of_lane, lane_at}
 use Rattle.seat_views.specs.Steps.{entry, item}
 use Rattle.seat_views.specs.States.{PassState}
-use Rattle.seat_views.specs.CallTests.{is_weak}
 use Rattle.seat_views.specs.Paths.{is_last_try, eat_loop}
 use Rattle.seat_views.specs.Tries.{LookMade, LookSaw, TryMade, TrySaw}
 use Rattle.seat_views.specs.Makes.{MakesEntry}
-use Rattle.seat_views.proofs.PathPieces.{decides_is, last_try_is, look_goes_on, try_goes_on, try_ends}
+use Rattle.seat_views.proofs.PathPieces.{look_settles_is, look_goes_on, try_goes_on, try_ends}
 use Rattle.lane_word.proofs.LanePieces.{numbered_self, loop_path, no_load, none_before_step, none_first, none_more, none_then_entry}
 use Rattle.lane_word.proofs.LaneSteps.{look_at_once}
 use Rattle.exchange_loop.specs.Turns.{Turns, Turning}
@@ -39,7 +39,7 @@ module _ (S : Shape) (o : ℕ) (call : Call) (lane : HasLane S o) (plan : plan_o
   changes_sum : (c : ℕ) (before xs ys : List Entry) → changes c before (xs ++ ys) ≡ changes c before xs + changes c (before ++ xs) ys
   changes_sum c before xs ys = changes_append (λ (y : Entry). y.caller) (λ H. word_of S H word) c before xs ys
 
-  -- the look decides
+  -- the look settles the call
   pub look_done : (p : PassState) (r : Reply) (q : PassState) → LookMade S o call p r q → Turns S o call p r q
   look_done p r q made =
       let m = look_at_once S o call p r q lane plan made in let call_made = m.made in let one : length call_made.steps ≡ 1 = m.one in
@@ -53,7 +53,7 @@ module _ (S : Shape) (o : ℕ) (call : Call) (lane : HasLane S o) (plan : plan_o
         steps = i ∷ [];
         none = none_first p q i word n h;
         word_is = (λ k. word_of (sym there k) q.seen word) ∙ h.word_is;
-        goes_on = λ U. look_goes_on (lane_at S o) (word_of_lane S o) call i U (numbered_self kind.Look (word_of_lane S o) n) (sym (decides_is call (lane_at S o n) (no_load S o call lane plan)) ∙ saw.undecided);
+        goes_on = λ U. look_goes_on (lane_at S o) (word_of_lane S o) call i U (numbered_self kind.Look (word_of_lane S o) n) (sym (look_settles_is call (lane_at S o n) (no_load S o call lane plan)) ∙ saw.undecided);
         lost = 0;
         count = refl;
         paid = omega arith;
@@ -72,7 +72,7 @@ module _ (S : Shape) (o : ℕ) (call : Call) (lane : HasLane S o) (plan : plan_o
       let more : t.lost + 1 ≤ changes p.number p.seen (none.between ++ h.between) =
       lost_counts (λ (y : Entry). y.caller) (λ H. word_of S H word) p.number t.lost p.seen none.between h.between t.paid quiet (λ same. saw.other (sym is ∙ (same ∙ was))) in
       let longer_none = none_more p q z t.steps i word m none h in
-      let goes : is_last_try (lane_at S o) call n m ≡ false = last_try_is (lane_at S o) call n m ∙ (λ k. ne_eqb m n saw.other k || saw.undecided k) in
+      let goes : is_last_try (lane_at S o) call n m ≡ false = λ k. ne_eqb m n saw.other k || saw.undecided k in
       let longer : length (t.steps ++ i ∷ []) ≡ length t.steps + 1 = length-append t.steps (i ∷ []) in
       let so_far : length t.steps ≡ 1 + t.lost = t.count in
       record {
@@ -86,7 +86,7 @@ module _ (S : Shape) (o : ℕ) (call : Call) (lane : HasLane S o) (plan : plan_o
         paid = subst (λ (l : List Entry). t.lost + 1 ≤ changes p.number p.seen l) (sym longer_none.1) more;
       }
 
-  -- a try decides
+  -- a try settles the call
   pub try_done : (p : PassState) (n : ℕ) (q : PassState) (r : Reply) (z : PassState) → is_weak call ≡ false → Turning S o call p n q → TryMade S o call n q r z → Turns S o call p r z
   try_done p n q r z strong t made =
       let m : ℕ = made.seen in let i : Item = item (word_of_lane S o) kind.Try m in let h = made.appends in let none = t.none in
@@ -94,8 +94,8 @@ module _ (S : Shape) (o : ℕ) (call : Call) (lane : HasLane S o) (plan : plan_o
       let joined = none_then_entry o call r p q z t.steps i word m none h in
       let one : MakesEntry o call p r (t.steps ++ i ∷ []) z = joined.0 in
       let split : one.between ≡ none.between ++ h.between = joined.1 in
-      let ends : is_last_try (lane_at S o) call n m ≡ true = last_try_is (lane_at S o) call n m ∙ dite (ℕ_discrete m n)
-      (λ won. ap (λ (b : Bool). b || fails call (lane_at S o m)) (eq-eqb m n won))
+      let ends : is_last_try (lane_at S o) call n m ≡ true = dite (ℕ_discrete m n)
+      (λ won. ap (λ (b : Bool). b || lost_try_settles call (lane_at S o m)) (eq-eqb m n won))
       (λ other. λ k. ne_eqb m n other k || (made.failed other).0 k) in
       let longer : length (t.steps ++ i ∷ []) ≡ length t.steps + 1 = length-append t.steps (i ∷ []) in
       let so_far : length t.steps ≡ 1 + t.lost = t.count in

@@ -1,13 +1,12 @@
 //! Helpers of the tests: arenas, and calls on lanes that may not be there.
 
 ghost use Rattle.std.specs.Prelude.{◌≡◌, IfSome};
-ghost use Rattle.seat_views.specs.CallTests.{is_weak};
 ghost use Rattle.seat_views.specs.Trials.{IsReady, IsReadyRoot};
 
 use crate::turn_until;
 use lane_word::Lane;
 use layout_plan::{are_declared, lay};
-use op_table::{Call, Class, Kind, Reply, Width, after, call_fits};
+use op_table::{Call, Class, Kind, Reply, Width, after, call_fits, is_weak};
 use place_core::{Declared, MOST_IN_SHAPE, Name, Path, Place, lane_bits};
 use scalar_laws::Scalar;
 use seat_views::{Arena, Pass, Root};
@@ -139,15 +138,6 @@ pub(crate) fn turn<R: Wait>(
     match arena.plan(object, &call) {
         Path::Loop => Some(turn_until::<u8, R>(rt, arena, pass, lane, &call)),
         _ => None,
-    }
-}
-
-fn is_weak(call: &Call) -> bool
-    ensures { result ≡ is_weak call.now }
-{
-    match call {
-        Call::CasWeak(_, _) => true,
-        _ => false,
     }
 }
 

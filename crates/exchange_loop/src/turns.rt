@@ -3,12 +3,12 @@
 ghost use Rattle.std.specs.Prelude.{◌≡◌, ◌+◌, ◌<◌, ◌≤◌, false};
 ghost use Rattle.op_table.specs.Kind.{bits_of};
 ghost use Rattle.op_table.specs.Call.{CallFits, after_of};
+ghost use Rattle.op_table.specs.CallTests.{is_weak};
 ghost use Rattle.place_core.specs.declared.places.Path.TheVariants.{Loop};
 ghost use Rattle.place_core.specs.Operations.{plan_of};
 ghost use Rattle.place_core.specs.Shapes.{place_of, kind_of};
 ghost use Rattle.layout_plan.specs.Laws.{HasLane};
 ghost use Rattle.seat_views.specs.declared.view.Flight.TheVariants.{Idle};
-ghost use Rattle.seat_views.specs.CallTests.{is_weak};
 ghost use Rattle.seat_views.specs.Places.{shift_in, width_in, lane_at};
 ghost use Rattle.seat_views.specs.States.{IsOf};
 ghost use Rattle.exchange_loop.specs.Turns.{Turns};
@@ -46,6 +46,7 @@ fn bits_of_lane(arena: &Arena, lane: Lane) -> Bits
 
 /// Makes a call whose plan is a loop, on an object of the type `V`: looks once, and tries until a try wins or the call
 /// has failed. Each try goes from the word that was found last. It may wait for other threads.
+#[inline(always)]
 pub fn turn_until<V: Scalar, R: Wait>(
     rt: &R,
     arena: &Arena,

@@ -2,8 +2,9 @@
 use Rattle.std.proofs.Common.{◌≡◌, ℕ, ◌/◌, ◌%◌, ◌^◌, true, false, if◌then◌else◌, List, [], ◌∷◌, ◌++◌, Option, Some, None, refl, ap, sym, ◌∙◌, subst, append_assoc, eq-eqb}
 use Rattle.std.specs.Prelude.{◌&&◌}
 use Rattle.op_table.specs.declared.call.Call.{Call}
-use Rattle.op_table.specs.declared.call.Call.TheVariants.{Load, Store, Swap, Cas, CasWeak, Add, Sub, And, Nand, Or, Xor, Max, Min, Not, Neg, BitSet, BitClear, BitToggle}
+use Rattle.op_table.specs.declared.call.Call.TheVariants.{Load}
 use Rattle.op_table.specs.declared.call.Reply.{Reply}
+use Rattle.op_table.specs.CallTests.{is_load}
 use Rattle.place_core.specs.declared.entry.Entry.{Entry}
 use Rattle.place_core.specs.declared.places.Place.{Place}
 use Rattle.place_core.specs.declared.places.Path.{Path}
@@ -22,7 +23,6 @@ use Rattle.seat_views.specs.Places.{data_in, shift_in, width_in, word_of_lane, l
 use Rattle.seat_views.specs.Steps.{entry, item, op_item}
 use Rattle.seat_views.specs.States.{PassState, IsKept, AppendsAt, Looked}
 use Rattle.seat_views.specs.Items.{kind_code, is_numbered}
-use Rattle.seat_views.specs.CallTests.{is_load}
 use Rattle.seat_views.specs.Paths.{eat_one_step, eat_turns, eat_loop, eat_by, IsPath}
 use Rattle.seat_views.specs.Makes.{MakesEntry}
 use Rattle.seat_views.proofs.Making.{none_made, none_between, others_make_all}
@@ -59,23 +59,7 @@ load_plan S o lane = ap (λ (p : Option Place). path_at S (kind_of S o) Load p) 
 -- so no load is made by a loop
 pub no_load : (S : Shape) (o : ℕ) (call : Call) → HasLane S o → plan_of S o call ≡ Loop → is_load call ≡ false
 no_load S o Load lane plan = let both : One op.Load ≡ Loop = sym (load_plan S o lane) ∙ plan in absurd cc
-no_load S o (Store a) lane plan = refl
-no_load S o (Swap a) lane plan = refl
-no_load S o (Cas e n) lane plan = refl
-no_load S o (CasWeak e n) lane plan = refl
-no_load S o (Add a q) lane plan = refl
-no_load S o (Sub a q) lane plan = refl
-no_load S o (And a q) lane plan = refl
-no_load S o (Nand a) lane plan = refl
-no_load S o (Or a q) lane plan = refl
-no_load S o (Xor a q) lane plan = refl
-no_load S o (Max a) lane plan = refl
-no_load S o (Min a) lane plan = refl
-no_load S o (Not q) lane plan = refl
-no_load S o (Neg q) lane plan = refl
-no_load S o (BitSet p) lane plan = refl
-no_load S o (BitClear p) lane plan = refl
-no_load S o (BitToggle p) lane plan = refl
+no_load S o _ lane plan = refl
 
 -- ---- steps one after another
 

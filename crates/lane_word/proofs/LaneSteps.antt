@@ -26,11 +26,10 @@ use Rattle.seat_views.specs.Places.{data_in, shift_in, width_in, data_of_lane, w
 use Rattle.seat_views.specs.Steps.{entry, item, op_item}
 use Rattle.seat_views.specs.States.{PassState, AppendsAt}
 use Rattle.seat_views.specs.Items.{number_at}
-use Rattle.seat_views.specs.CallTests.{refuses}
 use Rattle.seat_views.specs.Paths.{IsPath}
 use Rattle.seat_views.specs.Tries.{OpMade, LookMade, LookSaw, TryMade}
 use Rattle.seat_views.specs.Makes.{MakesEntry}
-use Rattle.seat_views.proofs.PathPieces.{decides_is, look_goes_on, look_ends, try_ends}
+use Rattle.seat_views.proofs.PathPieces.{look_settles_is, look_goes_on, look_ends, try_ends}
 use Rattle.lane_word.specs.LaneCalls.{MakesAtOnce, MakesWeakly, MakesNone}
 use Rattle.lane_word.proofs.LanePieces.{numbered_self, one_path, loop_path, no_load, none_before_entry, none_first, none_then_entry}
 
@@ -54,12 +53,12 @@ pub op_at_once : (S : Shape) (o : ℕ) (call : Call) (done : WordOp) (p : PassSt
 op_at_once S o call done p r q lane plan made =
     made_at_once S o call p r (op_item (word_of_lane S o) done made.found) (data_of_lane S o) made.found (lane_at S o made.found) q made.reply made.appends (one_path S o call r lane done made.found plan)
 
--- a look that decides
+-- a look that settles the call
 pub look_at_once : (S : Shape) (o : ℕ) (call : Call) (p : PassState) (r : Reply) (q : PassState) → HasLane S o → plan_of S o call ≡ Loop → LookMade S o call p r q → MakesAtOnce S o call p r q
 look_at_once S o call p r q lane plan made =
     let n : ℕ = made.found in let i : Item = item (word_of_lane S o) kind.Look n in
     made_at_once S o call p r i (data_of_lane S o) n (lane_at S o n) q made.reply made.appends
-    (loop_path S o call r lane (i ∷ []) plan (look_ends (lane_at S o) (word_of_lane S o) call i [] (numbered_self kind.Look (word_of_lane S o) n) (sym (decides_is call (lane_at S o n) (no_load S o call lane plan)) ∙ made.decided)))
+    (loop_path S o call r lane (i ∷ []) plan (look_ends (lane_at S o) (word_of_lane S o) call i [] (numbered_self kind.Look (word_of_lane S o) n) (sym (look_settles_is call (lane_at S o n) (no_load S o call lane plan)) ∙ made.decided)))
 
 -- ---- a weak exchange in one step
 
@@ -131,11 +130,11 @@ module _ (S : Shape) (ok : IsShape S) (o e x n : ℕ) (p q z : PassState) (r : R
   steps_path : IsPath S o (CasWeak e x) r (look ∷ try ∷ [])
   steps_path = loop_path S o (CasWeak e x) r lane (look ∷ try ∷ []) plan
       (look_goes_on (lane_at S o) (word_of_lane S o) (CasWeak e x) look (try ∷ []) (numbered_self kind.Look (word_of_lane S o) n) saw.undecided
-      ∙ try_ends (lane_at S o) (word_of_lane S o) (CasWeak e x) try [] n (numbered_self kind.Try (word_of_lane S o) made.seen) (weak_ends (made.seen == n) (refuses (CasWeak e x) (lane_at S o made.seen))))
+      ∙ try_ends (lane_at S o) (word_of_lane S o) (CasWeak e x) try [] n (numbered_self kind.Try (word_of_lane S o) made.seen) (ends (made.seen == n)))
     where
-      weak_ends : (a b : Bool) → (a || true || b) ≡ true
-      weak_ends true b = refl
-      weak_ends false b = refl
+      ends : (won : Bool) → (won || true) ≡ true
+      ends true = refl
+      ends false = refl
 
   -- where the words are one the exchange is done
   won_sure : made.seen ≡ n → r ≢ reply.Failed e

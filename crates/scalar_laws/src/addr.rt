@@ -28,10 +28,12 @@ impl Scalar for Addr {
         class: Class::Ptr,
     };
 
+    #[inline(always)]
     fn to_bits(self) -> u128 {
         self.0 as u128
     }
 
+    #[inline(always)]
     fn from_bits(pattern: u128) -> Self {
         Addr(pattern as u64)
     }

@@ -7,6 +7,7 @@ ghost use Rattle.op_table.specs.Call.{unless_quiet};
 use op_table::Reply;
 
 /// A value, unless the call is quiet.
+#[inline(always)]
 pub(crate) fn unless_quiet(quiet: bool, bits: u128) -> Reply
     ensures { result ≡ unless_quiet quiet bits }
 {

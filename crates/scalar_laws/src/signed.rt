@@ -29,10 +29,12 @@ impl Scalar for i8 {
         class: Class::Int,
     };
 
+    #[inline(always)]
     fn to_bits(self) -> u128 {
         self.cast_unsigned() as u128
     }
 
+    #[inline(always)]
     fn from_bits(pattern: u128) -> Self {
         (pattern as u8).cast_signed()
     }
@@ -69,10 +71,12 @@ impl Scalar for i16 {
         class: Class::Int,
     };
 
+    #[inline(always)]
     fn to_bits(self) -> u128 {
         self.cast_unsigned() as u128
     }
 
+    #[inline(always)]
     fn from_bits(pattern: u128) -> Self {
         (pattern as u16).cast_signed()
     }
@@ -109,10 +113,12 @@ impl Scalar for i32 {
         class: Class::Int,
     };
 
+    #[inline(always)]
     fn to_bits(self) -> u128 {
         self.cast_unsigned() as u128
     }
 
+    #[inline(always)]
     fn from_bits(pattern: u128) -> Self {
         (pattern as u32).cast_signed()
     }
@@ -149,10 +155,12 @@ impl Scalar for i64 {
         class: Class::Int,
     };
 
+    #[inline(always)]
     fn to_bits(self) -> u128 {
         self.cast_unsigned() as u128
     }
 
+    #[inline(always)]
     fn from_bits(pattern: u128) -> Self {
         (pattern as u64).cast_signed()
     }
@@ -189,10 +197,12 @@ impl Scalar for i128 {
         class: Class::Int,
     };
 
+    #[inline(always)]
     fn to_bits(self) -> u128 {
         self.cast_unsigned()
     }
 
+    #[inline(always)]
     fn from_bits(pattern: u128) -> Self {
         pattern.cast_signed()
     }

@@ -27,10 +27,12 @@ impl Scalar for bool {
         class: Class::Bool,
     };
 
+    #[inline(always)]
     fn to_bits(self) -> u128 {
         self as u128
     }
 
+    #[inline(always)]
     fn from_bits(pattern: u128) -> Self {
         pattern == 1
     }

@@ -27,10 +27,12 @@ impl Scalar for u8 {
         class: Class::Int,
     };
 
+    #[inline(always)]
     fn to_bits(self) -> u128 {
         self as u128
     }
 
+    #[inline(always)]
     fn from_bits(pattern: u128) -> Self {
         pattern as u8
     }
@@ -67,10 +69,12 @@ impl Scalar for u16 {
         class: Class::Int,
     };
 
+    #[inline(always)]
     fn to_bits(self) -> u128 {
         self as u128
     }
 
+    #[inline(always)]
     fn from_bits(pattern: u128) -> Self {
         pattern as u16
     }
@@ -107,10 +111,12 @@ impl Scalar for u32 {
         class: Class::Int,
     };
 
+    #[inline(always)]
     fn to_bits(self) -> u128 {
         self as u128
     }
 
+    #[inline(always)]
     fn from_bits(pattern: u128) -> Self {
         pattern as u32
     }
@@ -147,10 +153,12 @@ impl Scalar for u64 {
         class: Class::Int,
     };
 
+    #[inline(always)]
     fn to_bits(self) -> u128 {
         self as u128
     }
 
+    #[inline(always)]
     fn from_bits(pattern: u128) -> Self {
         pattern as u64
     }
@@ -187,10 +195,12 @@ impl Scalar for u128 {
         class: Class::Int,
     };
 
+    #[inline(always)]
     fn to_bits(self) -> u128 {
         self
     }
 
+    #[inline(always)]
     fn from_bits(pattern: u128) -> Self {
         pattern
     }

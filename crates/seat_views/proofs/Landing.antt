@@ -22,7 +22,7 @@ use Rattle.seat_views.specs.declared.view.Flight.TheVariants.{Idle}
 use Rattle.seat_views.specs.declared.view.StepKind.TheVariants as kind
 use Rattle.seat_views.specs.declared.view.View.{View}
 use Rattle.seat_views.specs.Places.{data_in, shift_in, width_in, data_of_lane, word_of_lane, lane_at}
-use Rattle.seat_views.specs.Deciding.{decides, fails}
+use Rattle.seat_views.specs.Deciding.{look_settles, lost_try_settles}
 use Rattle.seat_views.specs.Steps.{asked, entry, item, op_item, moved, IsSoundView, Grows, GrowsAt, Sees, MakesAt}
 use Rattle.seat_views.specs.Moves.{giver, newcomer}
 use Rattle.seat_views.specs.Rule.{first_view}
@@ -102,17 +102,17 @@ module _ (S : Shape) (o w s d : ℕ) (k : Kind) (place : place_of S o ≡ Some (
             (let less : data_word w - 1 ≡ w = omega arith in subst (λ (x : ℕ). GrowsAt v (entry v.number o call (answer_of k call (g.found / 2 ^ s % 2 ^ d))) (op_item (data_word w) done g.found) x g.found u) less g.grows);
       }
 
-  pub look_made : (n bits : ℕ) (r : Reply) → bits ≡ n / 2 ^ s % 2 ^ d → decides call bits ≡ true → r ≡ answer_of k call bits
-      → (decides call (n / 2 ^ s % 2 ^ d) ≡ true → GrowsAt v (entry v.number o call (answer_of k call (n / 2 ^ s % 2 ^ d))) (item (data_word w) kind.Look n) w n u) → LookMade S o call p r (state_of z' u)
+  pub look_made : (n bits : ℕ) (r : Reply) → bits ≡ n / 2 ^ s % 2 ^ d → look_settles call bits ≡ true → r ≡ answer_of k call bits
+      → (look_settles call (n / 2 ^ s % 2 ^ d) ≡ true → GrowsAt v (entry v.number o call (answer_of k call (n / 2 ^ s % 2 ^ d))) (item (data_word w) kind.Look n) w n u) → LookMade S o call p r (state_of z' u)
   look_made n bits r bits_is yes_it r_is g = record {
     found = n;
-    decided = ap (decides call) (sym (bits_at n bits bits_is)) ∙ yes_it;
+    decided = ap (look_settles call) (sym (bits_at n bits bits_is)) ∙ yes_it;
     reply = r_is ∙ (λ t. answer_of (sym kind_is t) call (bits_at n bits bits_is t));
-    appends = grew (λ word. item word kind.Look n) n r (answer_of k call (n / 2 ^ s % 2 ^ d)) (ap (answer_of k call) (sym bits_is) ∙ sym r_is) (g (ap (decides call) (sym bits_is) ∙ yes_it));
+    appends = grew (λ word. item word kind.Look n) n r (answer_of k call (n / 2 ^ s % 2 ^ d)) (ap (answer_of k call) (sym bits_is) ∙ sym r_is) (g (ap (look_settles call) (sym bits_is) ∙ yes_it));
   }
 
-  pub look_saw : (n bits : ℕ) → bits ≡ n / 2 ^ s % 2 ^ d → decides call bits ≡ false → (decides call (n / 2 ^ s % 2 ^ d) ≡ false → Sees v (item (data_word w) kind.Look n) w n u) → LookSaw S o call p n (state_of z' u)
-  look_saw n bits bits_is never g = record { undecided = ap (decides call) (sym (bits_at n bits bits_is)) ∙ never; looked = saw (λ word. item word kind.Look n) n (g (ap (decides call) (sym bits_is) ∙ never)) }
+  pub look_saw : (n bits : ℕ) → bits ≡ n / 2 ^ s % 2 ^ d → look_settles call bits ≡ false → (look_settles call (n / 2 ^ s % 2 ^ d) ≡ false → Sees v (item (data_word w) kind.Look n) w n u) → LookSaw S o call p n (state_of z' u)
+  look_saw n bits bits_is never g = record { undecided = ap (look_settles call) (sym (bits_at n bits bits_is)) ∙ never; looked = saw (λ word. item word kind.Look n) n (g (ap (look_settles call) (sym bits_is) ∙ never)) }
 
   pub try_won : (found n bits : ℕ) (r : Reply) → bits ≡ n / 2 ^ s % 2 ^ d → n ≡ found → r ≡ answer_of k call bits
       → (n ≡ found → GrowsAt v (entry v.number o call (answer_of k call (n / 2 ^ s % 2 ^ d))) (item (data_word w) kind.Try n) w n u) → TryMade S o call found p r (state_of z' u)
@@ -123,18 +123,18 @@ module _ (S : Shape) (o w s d : ℕ) (k : Kind) (place : place_of S o ≡ Some (
     appends = grew (λ word. item word kind.Try n) n r (answer_of k call (n / 2 ^ s % 2 ^ d)) (ap (answer_of k call) (sym bits_is) ∙ sym r_is) (g hit);
   }
 
-  pub try_failed : (found n bits : ℕ) → bits ≡ n / 2 ^ s % 2 ^ d → n ≢ found → fails call bits ≡ true
-      → (n ≢ found → fails call (n / 2 ^ s % 2 ^ d) ≡ true → GrowsAt v (entry v.number o call (Failed (n / 2 ^ s % 2 ^ d))) (item (data_word w) kind.Try n) w n u) → TryMade S o call found p (Failed bits) (state_of z' u)
+  pub try_failed : (found n bits : ℕ) → bits ≡ n / 2 ^ s % 2 ^ d → n ≢ found → lost_try_settles call bits ≡ true
+      → (n ≢ found → lost_try_settles call (n / 2 ^ s % 2 ^ d) ≡ true → GrowsAt v (entry v.number o call (Failed (n / 2 ^ s % 2 ^ d))) (item (data_word w) kind.Try n) w n u) → TryMade S o call found p (Failed bits) (state_of z' u)
   try_failed found n bits bits_is miss yes_it g = record {
     seen = n;
     won = λ hit. absurd (miss hit);
-    failed = λ _. (ap (fails call) (sym (bits_at n bits bits_is)) ∙ yes_it, ap (λ (x : ℕ). Failed x) (bits_at n bits bits_is));
-    appends = grew (λ word. item word kind.Try n) n (Failed bits) (Failed (n / 2 ^ s % 2 ^ d)) (ap (λ (x : ℕ). Failed x) (sym bits_is)) (g miss (ap (fails call) (sym bits_is) ∙ yes_it));
+    failed = λ _. (ap (lost_try_settles call) (sym (bits_at n bits bits_is)) ∙ yes_it, ap (λ (x : ℕ). Failed x) (bits_at n bits bits_is));
+    appends = grew (λ word. item word kind.Try n) n (Failed bits) (Failed (n / 2 ^ s % 2 ^ d)) (ap (λ (x : ℕ). Failed x) (sym bits_is)) (g miss (ap (lost_try_settles call) (sym bits_is) ∙ yes_it));
   }
 
-  pub try_saw : (found n bits : ℕ) → bits ≡ n / 2 ^ s % 2 ^ d → n ≢ found → fails call bits ≡ false
-      → (n ≢ found → fails call (n / 2 ^ s % 2 ^ d) ≡ false → Sees v (item (data_word w) kind.Try n) w n u) → TrySaw S o call found p n (state_of z' u)
-  try_saw found n bits bits_is miss never g = record { other = miss; undecided = ap (fails call) (sym (bits_at n bits bits_is)) ∙ never; looked = saw (λ word. item word kind.Try n) n (g miss (ap (fails call) (sym bits_is) ∙ never)) }
+  pub try_saw : (found n bits : ℕ) → bits ≡ n / 2 ^ s % 2 ^ d → n ≢ found → lost_try_settles call bits ≡ false
+      → (n ≢ found → lost_try_settles call (n / 2 ^ s % 2 ^ d) ≡ false → Sees v (item (data_word w) kind.Try n) w n u) → TrySaw S o call found p n (state_of z' u)
+  try_saw found n bits bits_is miss never g = record { other = miss; undecided = ap (lost_try_settles call) (sym (bits_at n bits bits_is)) ∙ never; looked = saw (λ word. item word kind.Try n) n (g miss (ap (lost_try_settles call) (sym bits_is) ∙ never)) }
 
 -- the value that a try stores is one of the kind, and its word replaces the lane
 module _ (S : Shape) (o w s d : ℕ) (k : Kind) (place : place_of S o ≡ Some (Lane w s d)) (kind_is : kind_of S o ≡ k) (call : Call) where

@@ -11,7 +11,7 @@ use Rattle.atomic_table.specs.Table.{State, Act, Me, Valid, carried_after, stepp
 use Rattle.atomic_table.proofs.Lists.{exchanged}
 use Rattle.op_table.specs.declared.kind.Kind.{Kind}
 use Rattle.op_table.specs.declared.call.Call.{Call}
-use Rattle.op_table.specs.declared.call.Call.TheVariants.{Load, Store, Swap, Cas, CasWeak, Add, Sub, And, Nand, Or, Xor, Max, Min, Not, Neg, BitSet, BitClear, BitToggle}
+use Rattle.op_table.specs.declared.call.Call.TheVariants.{Load, Store, Swap, Cas, CasWeak, Add, Sub, Max, Min}
 use Rattle.op_table.specs.declared.call.Reply.{Reply}
 use Rattle.op_table.specs.declared.call.Reply.TheVariants as reply
 use Rattle.op_table.specs.Call.{after_of, answer_of, Permits, CallFits}
@@ -35,7 +35,7 @@ use Rattle.seat_views.specs.declared.view.Flight.TheVariants.{Idle}
 use Rattle.seat_views.specs.declared.view.View.{View}
 use Rattle.seat_views.specs.Places.{value_after, IsLegalIn}
 use Rattle.seat_views.specs.Rule.{Lanes, HoldsUnder, ArenaHolds}
-use Rattle.seat_views.specs.Deciding.{decides, fails}
+use Rattle.seat_views.specs.Deciding.{look_settles, lost_try_settles}
 use Rattle.seat_views.specs.Steps.{Asked, lane_in, entry, item, op_item, grown, caught_up, GrowsAt, Sees, op_tells, look_tells, try_tells}
 use Rattle.seat_views.proofs.ShapePlaces.{lane_within, lane_apart, lawful}
 use Rattle.seat_views.proofs.Frames.{SameInParts, all_same, flights_of, flights_set, parts_frame, glances_frame}
@@ -179,24 +179,15 @@ abbrev pub IsBlind : Kind → Call → Type 0
 IsBlind k call = (u v : ℕ) → answer_of k call u ≡ answer_of k call v
 
 pub stored : (k : Kind) (s d : ℕ) (sole : Bool) (call : Call) (z : ℕ) → op_for k s d sole call ≡ Some (op.Store z) → IsBlind k call
-stored k s d sole Load z e = absurd cc
 stored k s d sole (Store a) z e = λ u v. refl
 stored k s d sole (Swap a) z e = absurd (let t = only sole (op.Swap (a * 2 ^ s)) (op.Store z) e in cc)
 stored k s d sole (Cas x a) z e = absurd (let t = only sole (op.Cas (x * 2 ^ s) (a * 2 ^ s)) (op.Store z) e in cc)
 stored k s d sole (CasWeak x a) z e = absurd (let t = only sole (op.Cas (x * 2 ^ s) (a * 2 ^ s)) (op.Store z) e in cc)
 stored k s d sole (Add a q) z e = absurd (let t = only _ (op.Add (a * 2 ^ s)) (op.Store z) e in cc)
 stored k s d sole (Sub a q) z e = absurd (let t = only _ (op.Sub (a * 2 ^ s)) (op.Store z) e in cc)
-stored k s d sole (And a q) z e = absurd cc
-stored k s d sole (Nand a) z e = absurd cc
-stored k s d sole (Or a q) z e = absurd cc
-stored k s d sole (Xor a q) z e = absurd cc
 stored k s d sole (Max a) z e = absurd (let t = only _ (op.Max (a * 2 ^ s)) (op.Store z) e in cc)
 stored k s d sole (Min a) z e = absurd (let t = only _ (op.Min (a * 2 ^ s)) (op.Store z) e in cc)
-stored k s d sole (Not q) z e = absurd cc
-stored k s d sole (Neg q) z e = absurd cc
-stored k s d sole (BitSet p) z e = absurd cc
-stored k s d sole (BitClear p) z e = absurd cc
-stored k s d sole (BitToggle p) z e = absurd cc
+stored k s d sole _ z e = absurd cc
 
 -- the number that the step tells: the one found, or another that its item doesn't show and at which the call replies the same
 abbrev pub TellsReply : Asked → (ℕ → ℕ) → Type 0
@@ -235,26 +226,12 @@ failing : (b : Bool) (v : ℕ) → not b ≡ true → (if b then reply.Done v el
 failing true v e = absurd cc
 failing false v e = refl
 
--- where a look decides, the answer leaves the value
-decided : (k : Kind) (call : Call) (v : ℕ) → decides call v ≡ true → effect_of (answer_of k call v) (after_of k call v) v ≡ v
+-- where a look settles the call, the answer leaves the value
+decided : (k : Kind) (call : Call) (v : ℕ) → look_settles call v ≡ true → effect_of (answer_of k call v) (after_of k call v) v ≡ v
 decided k Load v e = refl
 decided k (Cas x n) v e = ap (λ (z : Reply). effect_of z (after_of k (Cas x n) v) v) (failing (v == x) v e)
 decided k (CasWeak x n) v e = ap (λ (z : Reply). effect_of z (after_of k (CasWeak x n) v) v) (failing (v == x) v e)
-decided k (Store a) v e = absurd cc
-decided k (Swap a) v e = absurd cc
-decided k (Add a q) v e = absurd cc
-decided k (Sub a q) v e = absurd cc
-decided k (And a q) v e = absurd cc
-decided k (Nand a) v e = absurd cc
-decided k (Or a q) v e = absurd cc
-decided k (Xor a q) v e = absurd cc
-decided k (Max a) v e = absurd cc
-decided k (Min a) v e = absurd cc
-decided k (Not q) v e = absurd cc
-decided k (Neg q) v e = absurd cc
-decided k (BitSet p) v e = absurd cc
-decided k (BitClear p) v e = absurd cc
-decided k (BitToggle p) v e = absurd cc
+decided k _ v e = absurd cc
 
 -- where a lost try fails the call, the failure is permitted
 strong_fails : (k : Kind) (e n v : ℕ) → not (v == e) ≡ true → (reply.Failed v ≡ answer_of k (Cas e n) v) × (v ≡ after_of k (Cas e n) v)
@@ -264,27 +241,12 @@ strong_fails k e n v t = go (v == e) refl t
     go true h t = absurd cc
     go false h t = (ap (λ (b : Bool). if b then reply.Done v else reply.Failed v) (sym h), ap (λ (b : Bool). if b then n else v) (sym h))
 
-failed : (k : Kind) (call : Call) (v : ℕ) → fails call v ≡ true → Permits k call v (reply.Failed v) v
+failed : (k : Kind) (call : Call) (v : ℕ) → lost_try_settles call v ≡ true → Permits k call v (reply.Failed v) v
 failed k (Cas e n) v t = inl (strong_fails k e n v t)
 failed k (CasWeak e n) v t = dite (ℕ_discrete v e)
     (λ same. inr (same, refl, refl))
     (λ ne. inl (strong_fails k e n v (ap not (ne_eqb v e ne))))
-failed k Load v t = absurd cc
-failed k (Store a) v t = absurd cc
-failed k (Swap a) v t = absurd cc
-failed k (Add a q) v t = absurd cc
-failed k (Sub a q) v t = absurd cc
-failed k (And a q) v t = absurd cc
-failed k (Nand a) v t = absurd cc
-failed k (Or a q) v t = absurd cc
-failed k (Xor a q) v t = absurd cc
-failed k (Max a) v t = absurd cc
-failed k (Min a) v t = absurd cc
-failed k (Not q) v t = absurd cc
-failed k (Neg q) v t = absurd cc
-failed k (BitSet p) v t = absurd cc
-failed k (BitClear p) v t = absurd cc
-failed k (BitToggle p) v t = absurd cc
+failed k _ v t = absurd cc
 
 two_ways : (b : Bool) → (b ≡ true) ⊎ (b ≡ false)
 two_ways true = inl refl
@@ -301,21 +263,21 @@ look_keeps k ok a spot on slots id m is rest s r _ at _ =
     let bits : lane_in a n ≡ v = lane_found k ok a.object spot a.shift a.width on.place m is rest s r id at in
     let it : Item = item (data_word spot) kind.Look n in
     ⊎_elim
-    (λ (t : decides a.call (lane_in a n) ≡ true).
+    (λ (t : look_settles a.call (lane_in a n) ≡ true).
     let rp : Reply = answer_of a.kind a.call (lane_in a n) in
     let x : Entry = entry m.0.number a.object a.call rp in
     let replied : rp ≡ answer_of kd a.call v = (λ i. answer_of (sym on.kind i) a.call (bits i)) in
     let fits : CallFits kd a.call = subst (λ (z : Kind). CallFits z a.call) (sym on.kind) on.fits in
-    let at_value : decides a.call v ≡ true = subst (λ (z : ℕ). decides a.call z ≡ true) bits t in
+    let at_value : look_settles a.call v ≡ true = subst (λ (z : ℕ). look_settles a.call z ≡ true) bits t in
     let left : left_by kd x v ≡ v = ap (λ (z : Reply). effect_of z (after_of kd a.call v) v) replied ∙ decided kd a.call v at_value in
     let as_after : left_by kd x v ≡ after_of kd a.call v = ap (λ (z : Reply). effect_of z (after_of kd a.call v) v) replied ∙ effect_of-answer_of kd a.call v in
     let stays : n ≡ word_of S (r.log ++ x ∷ []) spot = found ∙ sym ((kept_value_keeps_word S r.log x left).1 spot) in
     let g = enters k ok a.object spot a.shift a.width on.place m is rest s r id at a.call rp it n (lawful S r.log x (Lane spot a.shift a.width) on.place fits (inl (replied, as_after))) stays in
-    (g.0, g.1, g.2, g.3, (g.4.0, (λ _. subst (λ (z : ℕ). GrowsAt m.0 x it z n g.0) (sym (less spot)) g.4.1), λ (f : decides a.call (lane_in a n) ≡ false). let bad : true ≡ false = sym t ∙ f in absurd cc)))
-    (λ (f : decides a.call (lane_in a n) ≡ false).
+    (g.0, g.1, g.2, g.3, (g.4.0, (λ _. subst (λ (z : ℕ). GrowsAt m.0 x it z n g.0) (sym (less spot)) g.4.1), λ (f : look_settles a.call (lane_in a n) ≡ false). let bad : true ≡ false = sym t ∙ f in absurd cc)))
+    (λ (f : look_settles a.call (lane_in a n) ≡ false).
     let g = looks k ok a.object spot a.shift a.width on.place m is rest s r id at it in
-    (g.0, g.1, g.2, g.3, (g.4.0, (λ (t : decides a.call (lane_in a n) ≡ true). let bad : true ≡ false = sym t ∙ f in absurd cc), λ _. subst (λ (z : ℕ). Sees m.0 it z n g.0) (sym (less spot)) g.4.1)))
-    (two_ways (decides a.call (lane_in a n)))
+    (g.0, g.1, g.2, g.3, (g.4.0, (λ (t : look_settles a.call (lane_in a n) ≡ true). let bad : true ≡ false = sym t ∙ f in absurd cc), λ _. subst (λ (z : ℕ). Sees m.0 it z n g.0) (sym (less spot)) g.4.1)))
+    (two_ways (look_settles a.call (lane_in a n)))
 
 -- a try: the word is exchanged from the number found to the one with the lane replaced
 pub try_keeps : (k : Opening) → IsShape k.shape → (a : Asked) (spot : ℕ) → OnLane k.shape a spot → (slots id : ℕ) (m : Me (Unit {0}) View) (found new : ℕ) → m.0.role ≡ role.Pass → m.0.flight ≡ Idle
@@ -345,13 +307,13 @@ try_keeps k ok a spot on slots id m found new is rest made s r _ at _ =
     (put_makes_call S ok r.log legal x spot a.shift a.width n new on.place f_is at_lane made_n) in
     (g.0, g.1, g.2, g.3, (g.4.0, (λ _. subst (λ (z : ℕ). GrowsAt m.0 x it z n g.0) (sym (less spot)) g.4.1), (λ miss. absurd (miss hit)), λ miss. absurd (miss hit))))
     (λ miss. ⊎_elim
-    (λ (t : fails a.call (lane_in a n) ≡ true).
+    (λ (t : lost_try_settles a.call (lane_in a n) ≡ true).
     let x : Entry = entry m.0.number a.object a.call (reply.Failed (lane_in a n)) in
-    let permitted : Permits kd a.call v (reply.Failed (lane_in a n)) v = subst (λ (z : ℕ). Permits kd a.call v (reply.Failed z) v) (sym bits) (failed kd a.call v (subst (λ (z : ℕ). fails a.call z ≡ true) bits t)) in
+    let permitted : Permits kd a.call v (reply.Failed (lane_in a n)) v = subst (λ (z : ℕ). Permits kd a.call v (reply.Failed z) v) (sym bits) (failed kd a.call v (subst (λ (z : ℕ). lost_try_settles a.call z ≡ true) bits t)) in
     let g = enters k ok a.object spot a.shift a.width on.place m is rest s r id at a.call (reply.Failed (lane_in a n)) it n
     (lawful S r.log x (Lane spot a.shift a.width) on.place fits permitted) (f_is ∙ sym ((failed_leaves_word S r.log x (lane_in a n) refl).1 spot)) in
-    (g.0, g.1, g.2, g.3, (g.4.0, (λ hit. absurd (miss hit)), (λ _ _. subst (λ (z : ℕ). GrowsAt m.0 x it z n g.0) (sym (less spot)) g.4.1), λ _ (f : fails a.call (lane_in a n) ≡ false). let bad : true ≡ false = sym t ∙ f in absurd cc)))
-    (λ (f : fails a.call (lane_in a n) ≡ false).
+    (g.0, g.1, g.2, g.3, (g.4.0, (λ hit. absurd (miss hit)), (λ _ _. subst (λ (z : ℕ). GrowsAt m.0 x it z n g.0) (sym (less spot)) g.4.1), λ _ (f : lost_try_settles a.call (lane_in a n) ≡ false). let bad : true ≡ false = sym t ∙ f in absurd cc)))
+    (λ (f : lost_try_settles a.call (lane_in a n) ≡ false).
     let g = looks k ok a.object spot a.shift a.width on.place m is rest s r id at it in
-    (g.0, g.1, g.2, g.3, (g.4.0, (λ hit. absurd (miss hit)), (λ _ (t : fails a.call (lane_in a n) ≡ true). let bad : true ≡ false = sym t ∙ f in absurd cc), λ _ _. subst (λ (z : ℕ). Sees m.0 it z n g.0) (sym (less spot)) g.4.1)))
-    (two_ways (fails a.call (lane_in a n))))
+    (g.0, g.1, g.2, g.3, (g.4.0, (λ hit. absurd (miss hit)), (λ _ (t : lost_try_settles a.call (lane_in a n) ≡ true). let bad : true ≡ false = sym t ∙ f in absurd cc), λ _ _. subst (λ (z : ℕ). Sees m.0 it z n g.0) (sym (less spot)) g.4.1)))
+    (two_ways (lost_try_settles a.call (lane_in a n))))

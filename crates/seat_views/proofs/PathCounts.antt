@@ -4,6 +4,7 @@ use Rattle.std.specs.Prelude.{◌&&◌, ◌||◌, not}
 use Rattle.op_table.specs.declared.call.Call.{Call}
 use Rattle.op_table.specs.declared.call.Call.TheVariants.{Load}
 use Rattle.op_table.specs.declared.call.Reply.{Reply}
+use Rattle.op_table.specs.CallTests.{expects_another, is_weak, is_load, has_failed, does_write}
 use Rattle.place_core.specs.declared.places.Place.{Place}
 use Rattle.place_core.specs.declared.places.Place.TheVariants.{Lane, Parts}
 use Rattle.place_core.specs.declared.places.Path.{Path}
@@ -15,7 +16,7 @@ use Rattle.seat_views.specs.declared.view.StepKind.TheVariants as step
 use Rattle.seat_views.specs.declared.view.Item.{Item}
 use Rattle.seat_views.specs.LockSteps.{last_stamp}
 use Rattle.seat_views.specs.Items.{number_in, is_numbered, number_at, count_of}
-use Rattle.seat_views.specs.CallTests.{refuses, is_weak, is_load, has_failed, does_write}
+use Rattle.seat_views.specs.Deciding.{lost_try_settles}
 use Rattle.seat_views.specs.Paths.{lane_in, is_last_try, eat_tries, eat_loop, count_if, eat_locked, eat_glance, eat_one_step, eat_parts, eat_by, IsPath}
 use Rattle.seat_views.specs.StepCounts.{OneStepIsOneItem, RefusedLookIsOneItem, WeakPathIsTwoItems, AreLost, found_last, LookAndTries, LoopIsLookAndTries, TakesAnd, WideWriteStoresAll, WideFailureStoresNone, SectionLoadStoresNone, StampsFirst, WideLoadStampsFirst, IsNoGlance, MatchedGlanceIsWhole, HeldGlanceTakes, MovedGlanceTakes, TakeFollowsMissedLook, WideLoadStoresNone}
 use Rattle.seat_views.proofs.PathFronts.{only, choice, not_same, count_same, count_else, one_front, LockedCounts, locked_front, locked_counts, GlanceHeld, GlanceRead, glance_front, number_after, step_counts}
@@ -41,11 +42,11 @@ on_lane : (S : Shape) (o : ℕ) (call : Call) (r : Reply) (T : List Item) (w s d
 on_lane S o call r T w s d plan there path = sym (λ i. eat_by S (plan i) (there i) call r T) ∙ path
 
 module _ (lane : ℕ → ℕ) (w : ℕ) (call : Call) where
-  -- the first number decides
-  refused_look : (T R : List Item) → refuses call (lane (number_at 0 T)) ≡ true → eat_loop lane w call T ≡ Some R → length T ≡ 1 + length R
+  -- the first number settles the call
+  refused_look : (T R : List Item) → expects_another call (lane (number_at 0 T)) ≡ true → eat_loop lane w call T ≡ Some R → length T ≡ 1 + length R
   refused_look [] R stops e = absurd cc
   refused_look (i ∷ T) R stops e =
-      let t = only (is_numbered step.Look w i) (if refuses call (lane (number_in i.number)) then Some T else eat_tries lane w call (number_in i.number) T) R e in
+      let t = only (is_numbered step.Look w i) (if expects_another call (lane (number_in i.number)) then Some T else eat_tries lane w call (number_in i.number) T) R e in
       let left : Some T ≡ Some R = sym (ap (λ (b : Bool). if b then Some T else eat_tries lane w call (number_in i.number) T) stops) ∙ t.1 in
       let same : T ≡ R = cc in ap suc (ap length same) ∙ omega arith
 
@@ -59,11 +60,11 @@ module _ (lane : ℕ → ℕ) (w : ℕ) (call : Call) where
     decided : is_last_try lane call (found_last n lost) (number_in last.number) ≡ true
 
   not_found : (n m : ℕ) → is_last_try lane call n m ≡ false → m ≢ n
-  not_found n m e = not_same m n (first_false (m == n) (is_weak call) (refuses call (lane m)) e)
+  not_found n m e = not_same m n (first_false (m == n) (lost_try_settles call (lane m)) e)
     where
-      first_false : (a b c : Bool) → (a || b || c) ≡ false → a ≡ false
-      first_false true b c e = cc
-      first_false false b c e = refl
+      first_false : (a b : Bool) → (a || b) ≡ false → a ≡ false
+      first_false true b e = cc
+      first_false false b e = refl
 
   tries_of : (T : List Item) (n : ℕ) (R : List Item) → eat_tries lane w call n T ≡ Some R → Tries n T R
   tries_of [] n R e = absurd cc
@@ -76,11 +77,11 @@ module _ (lane : ℕ → ℕ) (w : ℕ) (call : Call) where
             record { lost = i ∷ more.lost; last = more.last; split = ap (λ (l : List Item). i ∷ l) more.split; all_lost = (t.0, not_found n m goes.0, goes.0, more.all_lost); tried = more.tried; decided = more.decided })
       ]
 
-  look_and_tries : (T : List Item) → refuses call (lane (number_at 0 T)) ≡ false → eat_loop lane w call T ≡ Some [] → LookAndTries lane w call T
+  look_and_tries : (T : List Item) → expects_another call (lane (number_at 0 T)) ≡ false → eat_loop lane w call T ≡ Some [] → LookAndTries lane w call T
   look_and_tries [] goes e = absurd cc
   look_and_tries (i ∷ T) goes e =
       let m : ℕ = number_in i.number in
-      let t = only (is_numbered step.Look w i) (if refuses call (lane m) then Some T else eat_tries lane w call m T) [] e in
+      let t = only (is_numbered step.Look w i) (if expects_another call (lane m) then Some T else eat_tries lane w call m T) [] e in
       let left : eat_tries lane w call m T ≡ Some [] = sym (ap (λ (b : Bool). if b then Some T else eat_tries lane w call m T) goes) ∙ t.1 in
       let more = tries_of T m [] left in
       let whole : length T ≡ length more.lost + 1 = ap length more.split ∙ length-append more.lost (more.last ∷ []) in
@@ -98,9 +99,9 @@ module _ (lane : ℕ → ℕ) (w : ℕ) (call : Call) where
 
   -- of a weak exchange no try is lost
   weak_last : is_weak call ≡ true → (n m : ℕ) → is_last_try lane call n m ≡ true
-  weak_last weak n m = any_true (m == n) (is_weak call) (refuses call (lane m)) weak
+  weak_last weak n m = any_true (m == n) (is_weak call) (expects_another call (lane m)) weak
     where
-      any_true : (a b c : Bool) → b ≡ true → (a || b || c) ≡ true
+      any_true : (a b c : Bool) → b ≡ true → (a || (b || c)) ≡ true
       any_true true b c e = refl
       any_true false true c e = refl
       any_true false false c e = cc
@@ -155,10 +156,10 @@ whole_piece n others puts writes T c stored sum =
     (record { taken = omega arith; count = omega arith }, omega arith)
 
 writes_if : (call : Call) (r : Reply) → is_load call ≡ false → has_failed r ≡ false → does_write call r ≡ true
-writes_if call r other done = λ i. if other i then false else not (done i)
+writes_if call r other done = λ i. not (other i) && not (done i)
 
 writes_not : (call : Call) (r : Reply) → is_load call ≡ false → has_failed r ≡ true → does_write call r ≡ false
-writes_not call r other failed = λ i. if other i then false else not (failed i)
+writes_not call r other failed = λ i. not (other i) && not (failed i)
 
 pub wide_write_stores_all : WideWriteStoresAll
 wide_write_stores_all S o call r T l f n b there other done path =

@@ -3,6 +3,7 @@ use Rattle.std.proofs.Common.{◌≡◌, ℕ, zero, suc, ◌+◌, ◌==◌, Bool
 use Rattle.std.specs.Prelude.{◌&&◌, ◌||◌, not}
 use Rattle.op_table.specs.declared.call.Call.{Call}
 use Rattle.op_table.specs.declared.call.Reply.{Reply}
+use Rattle.op_table.specs.CallTests.{expects_another, is_load, does_write}
 use Rattle.place_core.specs.declared.places.Place.{Place}
 use Rattle.place_core.specs.declared.places.Place.TheVariants.{Lane, Parts}
 use Rattle.place_core.specs.declared.places.Path.{Path}
@@ -15,7 +16,6 @@ use Rattle.seat_views.specs.declared.view.StepKind.TheVariants as step
 use Rattle.seat_views.specs.declared.view.Item.{Item}
 use Rattle.seat_views.specs.LockSteps.{last_stamp, released}
 use Rattle.seat_views.specs.Items.{number_in, is_item, is_numbered, is_just}
-use Rattle.seat_views.specs.CallTests.{refuses, is_load, does_write}
 use Rattle.seat_views.specs.Paths.{and_then, eat_one, eat_just, eat_run, lane_in, is_last_try, eat_tries, eat_loop, count_if, eat_takes, eat_held, eat_locked, eat_match, eat_glance, eat_one_step, eat_turns, eat_parts, eat_by, eat_path, eat_paths}
 use Rattle.seat_views.specs.PathLaws.{Stretches, PathStretches, PathsStretch, PathEnds, NoCallsNoSteps, OnePathIsPaths, PathsJoin, PathsWithOneMore}
 
@@ -58,7 +58,7 @@ tries_stretch lane w call n (i ∷ T) R U e =
 pub loop_stretches : (lane : ℕ → ℕ) (w : ℕ) (call : Call) → Stretches (eat_loop lane w call)
 loop_stretches lane w call [] R U e = absurd cc
 loop_stretches lane w call (i ∷ T) R U e =
-    let m : ℕ = number_in i.number in let b : Bool = refuses call (lane m) in
+    let m : ℕ = number_in i.number in let b : Bool = expects_another call (lane m) in
     guarded (is_numbered step.Look w i) (if b then Some T else eat_tries lane w call m T) (if b then Some (T ++ U) else eat_tries lane w call m (T ++ U)) R U
     (chosen b (Some T) (eat_tries lane w call m T) (Some (T ++ U)) (eat_tries lane w call m (T ++ U)) R U (some_longer T R U) (tries_stretch lane w call m T R U)) e
 

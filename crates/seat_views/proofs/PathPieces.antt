@@ -3,8 +3,9 @@ use Rattle.std.proofs.Common.{◌≡◌, ◌≢◌, ◌⊎◌, inl, inr, ℕ, su
 use Rattle.std.specs.Prelude.{◌&&◌, ◌||◌, not}
 use Rattle.std.proofs.lemmas.List.{append-nil}
 use Rattle.op_table.specs.declared.call.Call.{Call}
-use Rattle.op_table.specs.declared.call.Call.TheVariants.{Load, Store, Swap, Cas, CasWeak, Add, Sub, And, Nand, Or, Xor, Max, Min, Not, Neg, BitSet, BitClear, BitToggle}
+use Rattle.op_table.specs.declared.call.Call.TheVariants.{Load}
 use Rattle.op_table.specs.declared.call.Reply.{Reply}
+use Rattle.op_table.specs.CallTests.{expects_another, is_load}
 use Rattle.place_core.specs.declared.places.Place.{Place}
 use Rattle.place_core.specs.declared.places.Place.TheVariants.{Parts}
 use Rattle.place_core.specs.declared.shape.Shape.{Shape}
@@ -13,74 +14,27 @@ use Rattle.place_core.specs.Operations.{path_at}
 use Rattle.seat_views.specs.declared.view.StepKind.TheVariants as step
 use Rattle.seat_views.specs.declared.view.Item.{Item}
 use Rattle.seat_views.specs.LockSteps.{last_stamp, released}
-use Rattle.seat_views.specs.Deciding.{decides, fails}
+use Rattle.seat_views.specs.Deciding.{look_settles}
 use Rattle.seat_views.specs.Items.{number_in, is_numbered, number_at, count_of}
-use Rattle.seat_views.specs.CallTests.{refuses, is_weak, is_load}
 use Rattle.seat_views.specs.Paths.{and_then, eat_just, eat_run, is_last_try, eat_tries, eat_loop, count_if, eat_takes, eat_held, eat_locked, eat_match, eat_glance, eat_by, IsPath, IsGlanceAt, IsGlance}
 use Rattle.seat_views.specs.StepCounts.{IsNoGlance, GlanceIsShort, MatchedGlanceIsPath, MissedGlanceGoesOn}
 use Rattle.seat_views.proofs.PathEating.{takes_stretch, run_stretches}
 use Rattle.seat_views.proofs.PathFronts.{Rest, only, choice, then_parts, run_front, count_same, count_else, step_counts, number_after, stamp_told, stamp_fresh}
 
--- ---- what decides
+-- ---- what settles the call
 
-pub decides_is : (call : Call) (v : ℕ) → is_load call ≡ false → decides call v ≡ refuses call v
-decides_is Load v other = absurd cc
-decides_is (Store a) v other = refl
-decides_is (Swap a) v other = refl
-decides_is (Cas e n) v other = refl
-decides_is (CasWeak e n) v other = refl
-decides_is (Add a q) v other = refl
-decides_is (Sub a q) v other = refl
-decides_is (And a q) v other = refl
-decides_is (Nand a) v other = refl
-decides_is (Or a q) v other = refl
-decides_is (Xor a q) v other = refl
-decides_is (Max a) v other = refl
-decides_is (Min a) v other = refl
-decides_is (Not q) v other = refl
-decides_is (Neg q) v other = refl
-decides_is (BitSet p) v other = refl
-decides_is (BitClear p) v other = refl
-decides_is (BitToggle p) v other = refl
-
-pub fails_is : (call : Call) (v : ℕ) → fails call v ≡ (is_weak call || refuses call v)
-fails_is Load v = refl
-fails_is (Store a) v = refl
-fails_is (Swap a) v = refl
-fails_is (Cas e n) v = refl
-fails_is (CasWeak e n) v = refl
-fails_is (Add a q) v = refl
-fails_is (Sub a q) v = refl
-fails_is (And a q) v = refl
-fails_is (Nand a) v = refl
-fails_is (Or a q) v = refl
-fails_is (Xor a q) v = refl
-fails_is (Max a) v = refl
-fails_is (Min a) v = refl
-fails_is (Not q) v = refl
-fails_is (Neg q) v = refl
-fails_is (BitSet p) v = refl
-fails_is (BitClear p) v = refl
-fails_is (BitToggle p) v = refl
-
--- a try is the last where it won, or where the step says that the call fails
-pub last_try_is : (lane : ℕ → ℕ) (call : Call) (n m : ℕ) → is_last_try lane call n m ≡ ((m == n) || fails call (lane m))
-last_try_is lane call n m = regroup (m == n) (is_weak call) (refuses call (lane m)) ∙ ap (λ (c : Bool). (m == n) || c) (sym (fails_is call (lane m)))
-  where
-    regroup : (a b c : Bool) → (a || b || c) ≡ (a || (b || c))
-    regroup true b c = refl
-    regroup false true c = refl
-    regroup false false c = refl
+pub look_settles_is : (call : Call) (v : ℕ) → is_load call ≡ false → look_settles call v ≡ expects_another call v
+look_settles_is call v other = ap (λ (b : Bool). b || expects_another call v) other
 
 -- ---- a look and tries, step by step
 
 module _ (lane : ℕ → ℕ) (w : ℕ) (call : Call) (i : Item) (U : List Item) where
-  -- a look that doesn't decide
-  pub look_goes_on : is_numbered step.Look w i ≡ true → refuses call (lane (number_in i.number)) ≡ false → eat_loop lane w call (i ∷ U) ≡ eat_tries lane w call (number_in i.number) U
+  -- a look that doesn't settle the call
+  pub look_goes_on : is_numbered step.Look w i ≡ true → expects_another call (lane (number_in i.number)) ≡ false → eat_loop lane w call (i ∷ U) ≡ eat_tries lane w call (number_in i.number) U
   look_goes_on is goes = λ k. if is k then (if goes k then Some U else eat_tries lane w call (number_in i.number) U) else None
 
   -- a look that finds that the exchange fails
-  pub look_ends : is_numbered step.Look w i ≡ true → refuses call (lane (number_in i.number)) ≡ true → eat_loop lane w call (i ∷ U) ≡ Some U
+  pub look_ends : is_numbered step.Look w i ≡ true → expects_another call (lane (number_in i.number)) ≡ true → eat_loop lane w call (i ∷ U) ≡ Some U
   look_ends is stops = λ k. if is k then (if stops k then Some U else eat_tries lane w call (number_in i.number) U) else None
 
   -- a lost try

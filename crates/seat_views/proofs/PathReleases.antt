@@ -7,7 +7,7 @@ use Rattle.seat_views.specs.declared.view.StepKind.TheVariants as step
 use Rattle.seat_views.specs.declared.view.Item.{Item}
 use Rattle.seat_views.specs.LockSteps.{released}
 use Rattle.seat_views.specs.Items.{kind_code, number_in, is_step, is_numbered, is_just, count_of}
-use Rattle.seat_views.specs.CallTests.{does_write}
+use Rattle.op_table.specs.CallTests.{does_write}
 use Rattle.seat_views.specs.Paths.{and_then, eat_just, eat_run, count_if, eat_takes, eat_held, eat_locked, eat_glance}
 use Rattle.seat_views.specs.PathLaws.{last_taken, ReleasesLast, CallReleasesLast, LoadReleasesLast}
 use Rattle.seat_views.proofs.PathFronts.{only, numbered_at, just_at, Are, Front, run_front, takes_front, take_only, then_parts, GlanceHeld, GlanceRead, glance_front}

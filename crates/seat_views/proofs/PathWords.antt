@@ -4,6 +4,7 @@ use Rattle.std.specs.Prelude.{◌&&◌, ◌||◌, not}
 use Rattle.std.specs.List.{AllByRecursion}
 use Rattle.op_table.specs.declared.call.Call.{Call}
 use Rattle.op_table.specs.declared.call.Reply.{Reply}
+use Rattle.op_table.specs.CallTests.{expects_another, is_load, does_write}
 use Rattle.place_core.specs.declared.places.Place.{Place}
 use Rattle.place_core.specs.declared.places.Place.TheVariants.{Lane}
 use Rattle.place_core.specs.declared.places.Path.{Path}
@@ -16,7 +17,6 @@ use Rattle.seat_views.specs.declared.view.StepKind.{StepKind}
 use Rattle.seat_views.specs.declared.view.StepKind.TheVariants as step
 use Rattle.seat_views.specs.declared.view.Item.{Item}
 use Rattle.seat_views.specs.Items.{kind_code, number_in, is_numbered}
-use Rattle.seat_views.specs.CallTests.{refuses, is_load, does_write}
 use Rattle.seat_views.specs.Paths.{lane_in, is_last_try, eat_tries, eat_loop, count_if, eat_locked, eat_glance, eat_by}
 use Rattle.seat_views.specs.PathLaws.{LaneStepsStay, is_on_lock, IsOwnStep, PartsStepsStay}
 use Rattle.seat_views.proofs.PathFronts.{only, choice, numbered_at, Are, Front, one_front, LockedFront, locked_front, GlanceHeld, GlanceRead, glance_front}
@@ -45,9 +45,9 @@ loop_stays : (lane : ℕ → ℕ) (w : ℕ) (call : Call) (T : List Item) → ea
 loop_stays lane w call [] e = absurd cc
 loop_stays lane w call (i ∷ T) e =
     let m : ℕ = number_in i.number in
-    let t = only (is_numbered step.Look w i) (if refuses call (lane m) then Some T else eat_tries lane w call m T) [] e in
+    let t = only (is_numbered step.Look w i) (if expects_another call (lane m) then Some T else eat_tries lane w call m T) [] e in
     let here = (numbered_at step.Look w i t.0).1 in
-    elim (choice (refuses call (lane m)) (Some T) (eat_tries lane w call m T) [] t.1) [
+    elim (choice (expects_another call (lane m)) (Some T) (eat_tries lane w call m T) [] t.1) [
       | inl ends ↦ (here, (let none : [] ≡ T = cc (ends.1) in subst (Stay w) none tt))
       | inr goes ↦ (here, tries_stay lane w call m T goes.1)
     ]

@@ -14,7 +14,6 @@ pub mod LockStates
 pub mod Lending
 pub mod Trials
 pub mod Items
-pub mod CallTests
 pub mod Paths
 pub mod PathLaws
 pub mod StepCounts

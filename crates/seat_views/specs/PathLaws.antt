@@ -4,6 +4,7 @@ use Rattle.std.specs.List.{AllByRecursion}
 use Rattle.op_table.specs.declared.call.Call.{Call}
 use Rattle.op_table.specs.declared.call.Call.TheVariants.{Load}
 use Rattle.op_table.specs.declared.call.Reply.{Reply}
+use Rattle.op_table.specs.CallTests.{is_load, does_write}
 use Rattle.place_core.specs.declared.places.Place.TheVariants.{Lane, Parts}
 use Rattle.place_core.specs.declared.shape.Shape.{Shape}
 use Rattle.place_core.specs.Shapes.{place_of, data_word, lock_word}
@@ -12,7 +13,6 @@ use Rattle.seat_views.specs.declared.view.StepKind.TheVariants as step
 use Rattle.seat_views.specs.declared.view.Item.{Item}
 use Rattle.seat_views.specs.LockSteps.{released}
 use Rattle.seat_views.specs.Items.{number_in, is_step, is_just, count_of}
-use Rattle.seat_views.specs.CallTests.{is_load, does_write}
 use Rattle.seat_views.specs.Paths.{eat_path, IsPath, eat_paths, ArePaths}
 
 -- ---- longer trails

@@ -3,6 +3,7 @@
 use Rattle.std.specs.Prelude.{◌≡◌, ℕ, zero, suc, ◌/◌, ◌%◌, ◌^◌, ◌==◌, ◌&&◌, ◌||◌, not, Bool, false, if◌then◌else◌, List, [], ◌∷◌, Option, Some, None}
 use Rattle.op_table.specs.declared.call.Call.{Call}
 use Rattle.op_table.specs.declared.call.Reply.{Reply}
+use Rattle.op_table.specs.CallTests.{expects_another, is_load, does_write}
 use Rattle.place_core.specs.declared.places.Place.{Place}
 use Rattle.place_core.specs.declared.places.Place.TheVariants.{Lane, Parts}
 use Rattle.place_core.specs.declared.places.Path.{Path}
@@ -15,7 +16,7 @@ use Rattle.seat_views.specs.declared.view.StepKind.TheVariants as step
 use Rattle.seat_views.specs.declared.view.Item.{Item}
 use Rattle.seat_views.specs.LockSteps.{last_stamp, released}
 use Rattle.seat_views.specs.Items.{number_in, is_item, is_numbered, is_just}
-use Rattle.seat_views.specs.CallTests.{refuses, is_weak, is_load, does_write}
+use Rattle.seat_views.specs.Deciding.{lost_try_settles}
 
 -- ---- steps one after another
 
@@ -45,9 +46,9 @@ eat_run k w (suc c) (i ∷ T) = if is_numbered k w i then eat_run k (suc w) c T 
 abbrev pub lane_in : ℕ → ℕ → ℕ → ℕ
 lane_in s d n = n / 2 ^ s % 2 ^ d
 
--- a try from the number n that found m is the last: it won, or the exchange fails
+-- a try from the number n that found m is the last: it won, or it settles the call
 abbrev pub is_last_try : (ℕ → ℕ) → Call → ℕ → ℕ → Bool
-is_last_try lane call n m = (m == n) || is_weak call || refuses call (lane m)
+is_last_try lane call n m = (m == n) || lost_try_settles call (lane m)
 
 -- tries up to the last, the first of them from the number n, and each later one from the number found before it
 abbrev pub eat_tries : (ℕ → ℕ) → ℕ → Call → ℕ → List Item → Option (List Item)
@@ -60,7 +61,7 @@ eat_tries lane w call n (i ∷ T) = if is_numbered step.Try w i
 abbrev pub eat_loop : (ℕ → ℕ) → ℕ → Call → List Item → Option (List Item)
 eat_loop lane w call [] = None
 eat_loop lane w call (i ∷ T) = if is_numbered step.Look w i
-    then (if refuses call (lane (number_in i.number)) then Some T else eat_tries lane w call (number_in i.number) T)
+    then (if expects_another call (lane (number_in i.number)) then Some T else eat_tries lane w call (number_in i.number) T)
     else None
 
 -- ---- under a lock

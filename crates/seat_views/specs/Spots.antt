@@ -15,7 +15,7 @@ use Rattle.seat_views.specs.declared.view.View.{View}
 use Rattle.seat_views.specs.declared.view.Flight.TheVariants.{Idle}
 use Rattle.seat_views.specs.declared.view.StepKind.{StepKind}
 use Rattle.seat_views.specs.declared.view.StepKind.TheVariants as kind
-use Rattle.seat_views.specs.Deciding.{decides, fails}
+use Rattle.seat_views.specs.Deciding.{look_settles, lost_try_settles}
 use Rattle.seat_views.specs.Steps.{Asked, asked, entry, item, moved, Grows, GrowsAt, Sees, MakesAt}
 use Rattle.seat_views.specs.LockSteps.{taken_flight, stamped_flight, read_more, write_more}
 
@@ -43,14 +43,14 @@ bits_there spot n = n / 2 ^ spot.shift % 2 ^ spot.width
 abbrev pub MadeByOp : Spot → ℕ → Call → WordOp → View → ℕ → View → Type 0
 MadeByOp spot o call done v n w = MakesAt (asked_at spot o call done) (data_word spot.word) v n w
 
--- a look that found n and decides made the call
+-- a look that found n and settles the call made it
 abbrev pub MadeByLook : Spot → ℕ → Call → View → ℕ → View → Type 0
-MadeByLook spot o call v n w = decides call (bits_there spot n) ≡ true →
+MadeByLook spot o call v n w = look_settles call (bits_there spot n) ≡ true →
     GrowsAt v (entry v.number o call (answer_of spot.kind call (bits_there spot n))) (item (data_word spot.word) kind.Look n) spot.word n w
 
 -- and one that doesn't made no entry
 abbrev pub SeenByLook : Spot → Call → View → ℕ → View → Type 0
-SeenByLook spot call v n w = decides call (bits_there spot n) ≡ false → Sees v (item (data_word spot.word) kind.Look n) spot.word n w
+SeenByLook spot call v n w = look_settles call (bits_there spot n) ≡ false → Sees v (item (data_word spot.word) kind.Look n) spot.word n w
 
 -- the word `next` is the word found with the call's value in the lane
 abbrev pub ReplacesThere : Spot → Call → ℕ → ℕ → Type 0
@@ -62,11 +62,11 @@ MadeByWin spot o call found v n w = n ≡ found →
     GrowsAt v (entry v.number o call (answer_of spot.kind call (bits_there spot n))) (item (data_word spot.word) kind.Try n) spot.word n w
 
 abbrev pub MadeByFailure : Spot → ℕ → Call → ℕ → View → ℕ → View → Type 0
-MadeByFailure spot o call found v n w = n ≢ found → fails call (bits_there spot n) ≡ true →
+MadeByFailure spot o call found v n w = n ≢ found → lost_try_settles call (bits_there spot n) ≡ true →
     GrowsAt v (entry v.number o call (Failed (bits_there spot n))) (item (data_word spot.word) kind.Try n) spot.word n w
 
 abbrev pub SeenByTry : Spot → Call → ℕ → View → ℕ → View → Type 0
-SeenByTry spot call found v n w = n ≢ found → fails call (bits_there spot n) ≡ false → Sees v (item (data_word spot.word) kind.Try n) spot.word n w
+SeenByTry spot call found v n w = n ≢ found → lost_try_settles call (bits_there spot n) ≡ false → Sees v (item (data_word spot.word) kind.Try n) spot.word n w
 
 -- ---- parts
 

@@ -3,6 +3,7 @@ use Rattle.std.specs.Prelude.{◌≡◌, ◌≢◌, ◌⊎◌, ℕ, suc, ◌+◌
 use Rattle.op_table.specs.declared.call.Call.{Call}
 use Rattle.op_table.specs.declared.call.Call.TheVariants.{Load}
 use Rattle.op_table.specs.declared.call.Reply.{Reply}
+use Rattle.op_table.specs.CallTests.{expects_another, is_weak, is_load, has_failed}
 use Rattle.place_core.specs.declared.places.Place.TheVariants.{Lane, Parts}
 use Rattle.place_core.specs.declared.places.WordOp.{WordOp}
 use Rattle.place_core.specs.declared.places.Path.TheVariants.{One, Loop}
@@ -13,7 +14,6 @@ use Rattle.seat_views.specs.declared.view.StepKind.TheVariants as step
 use Rattle.seat_views.specs.declared.view.Item.{Item}
 use Rattle.seat_views.specs.LockSteps.{last_stamp}
 use Rattle.seat_views.specs.Items.{number_in, is_numbered, number_at, count_of}
-use Rattle.seat_views.specs.CallTests.{refuses, is_weak, is_load, has_failed}
 use Rattle.seat_views.specs.Paths.{lane_in, is_last_try, eat_locked, IsPath, IsGlance}
 
 -- ---- steps on a lane
@@ -22,15 +22,15 @@ use Rattle.seat_views.specs.Paths.{lane_in, is_last_try, eat_locked, IsPath, IsG
 abbrev pub OneStepIsOneItem : Type 0
 OneStepIsOneItem = (S : Shape) (o : ℕ) (call : Call) (r : Reply) (T : List Item) (done : WordOp) → plan_of S o call ≡ One done → IsPath S o call r T → length T ≡ 1
 
--- an exchange that the look refuses
+-- a look that finds another value than the exchange expects
 abbrev pub RefusedLookIsOneItem : Type 0
 RefusedLookIsOneItem = (S : Shape) (o : ℕ) (call : Call) (r : Reply) (T : List Item) (w s d : ℕ) → plan_of S o call ≡ Loop → place_of S o ≡ Some (Lane w s d)
-    → refuses call (lane_in s d (number_at 0 T)) ≡ true → IsPath S o call r T → length T ≡ 1
+    → expects_another call (lane_in s d (number_at 0 T)) ≡ true → IsPath S o call r T → length T ≡ 1
 
 -- a weak exchange that the look doesn't refuse: the look and one try
 abbrev pub WeakPathIsTwoItems : Type 0
 WeakPathIsTwoItems = (S : Shape) (o : ℕ) (call : Call) (r : Reply) (T : List Item) (w s d : ℕ) → plan_of S o call ≡ Loop → place_of S o ≡ Some (Lane w s d) → is_weak call ≡ true
-    → refuses call (lane_in s d (number_at 0 T)) ≡ false → IsPath S o call r T → length T ≡ 2
+    → expects_another call (lane_in s d (number_at 0 T)) ≡ false → IsPath S o call r T → length T ≡ 2
 
 -- each of these tries, the first of them from the number n, found another number, and made no call
 abbrev pub AreLost : (ℕ → ℕ) → ℕ → Call → ℕ → List Item → Type 0
@@ -56,7 +56,7 @@ pub record LookAndTries (lane : ℕ → ℕ) (w : ℕ) (call : Call) (T : List I
 
 abbrev pub LoopIsLookAndTries : Type 0
 LoopIsLookAndTries = (S : Shape) (o : ℕ) (call : Call) (r : Reply) (T : List Item) (w s d : ℕ) → plan_of S o call ≡ Loop → place_of S o ≡ Some (Lane w s d)
-    → refuses call (lane_in s d (number_at 0 T)) ≡ false → IsPath S o call r T → LookAndTries (lane_in s d) (data_word w) call T
+    → expects_another call (lane_in s d (number_at 0 T)) ≡ false → IsPath S o call r T → LookAndTries (lane_in s d) (data_word w) call T
 
 -- ---- steps on parts
 

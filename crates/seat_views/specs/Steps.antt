@@ -23,7 +23,7 @@ use Rattle.seat_views.specs.declared.view.Role.TheVariants as role
 use Rattle.seat_views.specs.declared.view.Beside.TheVariants as beside
 use Rattle.seat_views.specs.declared.view.View.{View}
 use Rattle.seat_views.specs.Places.{IsLegalIn}
-use Rattle.seat_views.specs.Deciding.{decides, fails}
+use Rattle.seat_views.specs.Deciding.{look_settles, lost_try_settles}
 use Rattle.seat_views.specs.Rule.{caller_of, number_of_ended, entries_of_ended}
 
 -- ---- what a step is asked for
@@ -157,11 +157,11 @@ op_tells a word m n w = (w.1 ≡ m.1) × MakesAt a word m.0 n w.0
 abbrev pub op_told : Asked → Step (Unit {0}) → Me (Unit {0}) View → ℕ → Me (Unit {0}) View → Type 0
 op_told a st m n w = op_tells a st.word m n w
 
--- a look that decides makes the call
+-- a look that settles the call makes it
 abbrev pub look_tells : Asked → ℕ → Me (Unit {0}) View → ℕ → Me (Unit {0}) View → Type 0
 look_tells a word m n w = (w.1 ≡ m.1)
-    × (decides a.call (lane_in a n) ≡ true → GrowsAt m.0 (asked_entry a m.0.number (answer_of a.kind a.call (lane_in a n))) (item word kind.Look n) (word - 1) n w.0)
-    × (decides a.call (lane_in a n) ≡ false → Sees m.0 (item word kind.Look n) (word - 1) n w.0)
+    × (look_settles a.call (lane_in a n) ≡ true → GrowsAt m.0 (asked_entry a m.0.number (answer_of a.kind a.call (lane_in a n))) (item word kind.Look n) (word - 1) n w.0)
+    × (look_settles a.call (lane_in a n) ≡ false → Sees m.0 (item word kind.Look n) (word - 1) n w.0)
 
 abbrev pub look_told : Asked → Step (Unit {0}) → Me (Unit {0}) View → ℕ → Me (Unit {0}) View → Type 0
 look_told a st m n w = look_tells a st.word m n w
@@ -170,8 +170,8 @@ look_told a st m n w = look_tells a st.word m n w
 abbrev pub try_tells : Asked → ℕ → ℕ → Me (Unit {0}) View → ℕ → Me (Unit {0}) View → Type 0
 try_tells a word found m n w = (w.1 ≡ m.1)
     × (n ≡ found → GrowsAt m.0 (asked_entry a m.0.number (answer_of a.kind a.call (lane_in a n))) (item word kind.Try n) (word - 1) n w.0)
-    × (n ≢ found → fails a.call (lane_in a n) ≡ true → GrowsAt m.0 (asked_entry a m.0.number (reply.Failed (lane_in a n))) (item word kind.Try n) (word - 1) n w.0)
-    × (n ≢ found → fails a.call (lane_in a n) ≡ false → Sees m.0 (item word kind.Try n) (word - 1) n w.0)
+    × (n ≢ found → lost_try_settles a.call (lane_in a n) ≡ true → GrowsAt m.0 (asked_entry a m.0.number (reply.Failed (lane_in a n))) (item word kind.Try n) (word - 1) n w.0)
+    × (n ≢ found → lost_try_settles a.call (lane_in a n) ≡ false → Sees m.0 (item word kind.Try n) (word - 1) n w.0)
 
 abbrev pub try_told : Asked → Step (Unit {0}) → Me (Unit {0}) View → ℕ → Me (Unit {0}) View → Type 0
 try_told a st m n w = try_tells a st.word st.first m n w

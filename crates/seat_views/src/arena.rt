@@ -84,6 +84,7 @@ impl Arena {
     }
 
     /// The shape that the arena was opened with.
+    #[inline(always)]
     pub fn shape(&self) -> &Shape
         ensures value { result.now ≡ self.now.shape }
         ensures valid { IsShape self.now.shape }
@@ -92,6 +93,7 @@ impl Arena {
     }
 
     /// How a call on an object is made, in a few steps.
+    #[inline(always)]
     pub fn plan(&self, object: u32, call: &Call) -> Path
         requires object { object < length self.now.shape.objects }
         requires fits { CallFits (kind_of self.now.shape object) call.now }

@@ -7,7 +7,7 @@ ghost use Rattle.place_core.specs.Shapes.{kind_of};
 ghost use Rattle.layout_plan.specs.Laws.{HasLane};
 ghost use Rattle.seat_views.specs.declared.view.Role.TheVariants as role;
 ghost use Rattle.seat_views.specs.declared.view.Flight.TheVariants.{Idle};
-ghost use Rattle.seat_views.specs.Deciding.{decides, fails};
+ghost use Rattle.seat_views.specs.Deciding.{look_settles, lost_try_settles};
 ghost use Rattle.seat_views.specs.Spots.{IsSpot, HasCallThere, ServesThere, asked_at, MadeByOp};
 ghost use Rattle.seat_views.specs.Spots.{MadeByLook, SeenByLook, ReplacesThere, MadeByWin, MadeByFailure, SeenByTry};
 
@@ -15,7 +15,7 @@ use crate::arena::Arena;
 use crate::rule::{Asking, Look, Op, Try};
 use crate::view::View;
 use atomic_table::Seat;
-use op_table::{Call, Kind};
+use op_table::{Call, Kind, expects_another, is_load, is_weak};
 use place_core::{Place, WordOp};
 
 /// An object's kind and its lane.
@@ -29,6 +29,7 @@ pub(crate) struct Spot {
 
 /// Where an object's lane is.
 #[tactic(auto, using(crate::proofs::Spots::lane_facts))]
+#[inline(always)]
 pub(crate) fn lane_spot(arena: &Arena, object: u32) -> Spot
     requires { HasLane arena.now.shape object }
     ensures place { IsSpot arena.now.shape object result }
@@ -49,30 +50,24 @@ pub(crate) fn lane_spot(arena: &Arena, object: u32) -> Spot
     }
 }
 
-/// Whether a look makes the call where it finds this value.
-pub(crate) fn decides(call: &Call, v: u128) -> bool
-    ensures { result ≡ decides call.now v }
+/// Whether a look that finds this value makes the call.
+#[inline(always)]
+pub(crate) fn look_settles(call: &Call, v: u128) -> bool
+    ensures { result ≡ look_settles call.now v }
 {
-    match call {
-        Call::Load => true,
-        Call::Cas(expected, _) => v != *expected,
-        Call::CasWeak(expected, _) => v != *expected,
-        _ => false,
-    }
+    is_load(call) || expects_another(call, v)
 }
 
-/// Whether a lost try makes the call where it finds this value.
-pub(crate) fn fails(call: &Call, v: u128) -> bool
-    ensures { result ≡ fails call.now v }
+/// Whether a lost try that finds this value makes the call, which then fails.
+#[inline(always)]
+pub(crate) fn lost_try_settles(call: &Call, v: u128) -> bool
+    ensures { result ≡ lost_try_settles call.now v }
 {
-    match call {
-        Call::Cas(expected, _) => v != *expected,
-        Call::CasWeak(_, _) => true,
-        _ => false,
-    }
+    is_weak(call) || expects_another(call, v)
 }
 
 /// Makes the call by the operation that serves it. Answers the number found, and at a store the number stored.
+#[inline(always)]
 pub(crate) fn op_as<J: Asking>(
     arena: &Arena,
     seat: &mut Seat<(), View>,
@@ -111,6 +106,7 @@ pub(crate) fn op_as<J: Asking>(
 }
 
 /// Loads the lane's word.
+#[inline(always)]
 pub(crate) fn look_as<J: Asking>(
     arena: &Arena,
     seat: &mut Seat<(), View>,
@@ -134,6 +130,7 @@ pub(crate) fn look_as<J: Asking>(
 }
 
 /// Exchanges the lane's word from the number found to another.
+#[inline(always)]
 pub(crate) fn try_as<J: Asking>(
     arena: &Arena,
     seat: &mut Seat<(), View>,

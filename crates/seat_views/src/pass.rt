@@ -19,7 +19,7 @@ ghost use Rattle.seat_views.specs.LockStates.{ReadsStamp, ReadsPart, Matches, Mi
 
 use crate::arena::Arena;
 use crate::hand::{Hand, hand_at, stamp_after};
-use crate::lanes::{decides, fails, lane_spot, look_as, op_as, try_as};
+use crate::lanes::{lane_spot, look_as, look_settles, lost_try_settles, op_as, try_as};
 use crate::locks::{
     held_as, join, match_as, part_as, parts_cell, put_as, release_as, stamp_as, take_as,
 };
@@ -143,6 +143,7 @@ impl Pass {
     }
 
     /// Makes a call on an object's lane in one step, by the operation that serves it.
+    #[inline(always)]
     pub fn step_op(&mut self, arena: &Arena, object: u32, call: &Call, op: WordOp) -> Reply
         requires arena { IsOf arena.now self.old }
         requires serves { OpServes arena.now.shape object call.now op }
@@ -157,6 +158,7 @@ impl Pass {
 
     /// Loads the word of an object's lane. Ok where that makes the call: a load, or an exchange that expects another
     /// value than the lane's. Else the word, and no entry was made.
+    #[inline(always)]
     pub fn step_look(&mut self, arena: &Arena, object: u32, call: &Call) -> Result<Reply, u64>
         requires arena { IsOf arena.now self.old }
         requires object { HasLane arena.now.shape object }
@@ -168,7 +170,7 @@ impl Pass {
         let spot = lane_spot(arena, object);
         let found = look_as::<Brand>(arena, &mut self.seat, object, spot, call);
         let value = lane_bits(found, spot.shift, spot.width);
-        if decides(call, value) {
+        if look_settles(call, value) {
             Ok(answer(spot.kind, call, value))
         } else {
             Err(found)
@@ -178,6 +180,7 @@ impl Pass {
     /// Exchanges the word of an object's lane from `found` to the same with `new` in the lane. Ok where the call is
     /// made: it won, or found another word at which the call fails, as a weak exchange always does. Else the word that
     /// it found, and no entry was made.
+    #[inline(always)]
     pub fn step_try(
         &mut self,
         arena: &Arena,
@@ -200,7 +203,7 @@ impl Pass {
         let value = lane_bits(seen, spot.shift, spot.width);
         if seen == found {
             Ok(answer(spot.kind, call, value))
-        } else if fails(call, value) {
+        } else if lost_try_settles(call, value) {
             Ok(Reply::Failed(value))
         } else {
             Err(seen)

@@ -1,13 +1,12 @@
 -- A call under the lock, from its pieces: the takes, the parts read, the parts stored, and the release.
-use Rattle.std.proofs.Common.{◌≡◌, ℕ, ◌==◌, Bool, true, false, if◌then◌else◌, List, [], ◌∷◌, ◌++◌, Some, None, refl, ap, sym, ◌∙◌, subst, append_assoc, eq-eqb}
-use Rattle.std.specs.Prelude.{◌&&◌, not}
+use Rattle.std.proofs.Common.{◌≡◌, ℕ, true, false, if◌then◌else◌, List, [], ◌∷◌, ◌++◌, Some, None, refl, ap, sym, ◌∙◌, subst, append_assoc, eq-eqb}
+use Rattle.std.specs.Prelude.{◌&&◌}
 use Rattle.std.proofs.lemmas.List.{append-nil}
-use Rattle.op_table.specs.declared.kind.Kind.{Kind}
 use Rattle.op_table.specs.declared.call.Call.{Call}
-use Rattle.op_table.specs.declared.call.Call.TheVariants.{Load, Store, Swap, Cas, CasWeak, Add, Sub, And, Nand, Or, Xor, Max, Min, Not, Neg, BitSet, BitClear, BitToggle}
 use Rattle.op_table.specs.declared.call.Reply.{Reply}
-use Rattle.op_table.specs.declared.call.Reply.TheVariants as reply
 use Rattle.op_table.specs.Call.{after_of, answer_of}
+use Rattle.op_table.specs.CallTests.{does_write}
+use Rattle.op_table.proofs.CallKinds.{unwritten_keeps_value}
 use Rattle.place_core.specs.declared.shape.Shape.{Shape}
 use Rattle.place_core.specs.Shapes.{kind_of}
 use Rattle.place_core.specs.PartValues.{AreParts}
@@ -21,7 +20,6 @@ use Rattle.seat_views.specs.Places.{parts_of, word_of_lock}
 use Rattle.seat_views.specs.PartLists.{got}
 use Rattle.seat_views.specs.Steps.{item, entry}
 use Rattle.seat_views.specs.LockSteps.{released, stored_by, value_read, HoldsClean, HoldsRead, MayRelease}
-use Rattle.seat_views.specs.CallTests.{has_failed, does_write}
 use Rattle.seat_views.specs.Paths.{eat_just, eat_locked}
 use Rattle.seat_views.specs.States.{PassState, Appends}
 use Rattle.seat_views.specs.LockStates.{Releases}
@@ -42,43 +40,6 @@ entry_made p q z T f o call r i s h = record {
       ∙ ap (λ (l : List Item). record p { seen = z.seen; mine = p.mine ++ entry p.number o call r ∷ []; trail = l; flight = Idle }) (append_assoc p.trail T (i ∷ [])));
   kept = h.kept;
 }
-
--- ---- a call that writes nothing leaves the value
-
-loud : (q : Bool) (v : ℕ) → not (has_failed (if q then reply.Unit else reply.Value v)) ≡ true
-loud true v = refl
-loud false v = refl
-
-never : true ≡ false → ⊥
-never e = cc
-
-pub stays : (k : Kind) (call : Call) (v : ℕ) → does_write call (answer_of k call v) ≡ false → after_of k call v ≡ v
-stays k Load v e = refl
-stays k (Store a) v e = absurd (never e)
-stays k (Swap a) v e = absurd (never e)
-stays k (Cas x n) v e = go (v == x) e
-  where
-    go : (b : Bool) → not (has_failed (if b then reply.Done v else reply.Failed v)) ≡ false → (if b then n else v) ≡ v
-    go true e = absurd (never e)
-    go false e = refl
-stays k (CasWeak x n) v e = go (v == x) e
-  where
-    go : (b : Bool) → not (has_failed (if b then reply.Done v else reply.Failed v)) ≡ false → (if b then n else v) ≡ v
-    go true e = absurd (never e)
-    go false e = refl
-stays k (Add a q) v e = absurd (never (sym (loud q v) ∙ e))
-stays k (Sub a q) v e = absurd (never (sym (loud q v) ∙ e))
-stays k (And a q) v e = absurd (never (sym (loud q v) ∙ e))
-stays k (Nand a) v e = absurd (never e)
-stays k (Or a q) v e = absurd (never (sym (loud q v) ∙ e))
-stays k (Xor a q) v e = absurd (never (sym (loud q v) ∙ e))
-stays k (Max a) v e = absurd (never e)
-stays k (Min a) v e = absurd (never e)
-stays k (Not q) v e = absurd (never (sym (loud q v) ∙ e))
-stays k (Neg q) v e = absurd (never (sym (loud q v) ∙ e))
-stays k (BitSet p) v e = absurd (never e)
-stays k (BitClear p) v e = absurd (never e)
-stays k (BitToggle p) v e = absurd (never e)
 
 -- ---- the pieces
 
@@ -103,7 +64,7 @@ module _ (S : Shape) (o : ℕ) (call : Call) (p q1 : PassState) (v : ℕ) (q2 : 
   may_leave quiet = subst (MayRelease S o call) (sym held_flight) (
     refl,
     a.known,
-    subst (AreParts S.word_bits (parts_of S o) (got a.read)) (sym a.value_is ∙ (sym (stays (kind_of S o) call v quiet) ∙ ap (after_of (kind_of S o) call) a.value_is)) (joined_has_its_parts S.word_bits (parts_of S o) (got a.read) a.small),
+    subst (AreParts S.word_bits (parts_of S o) (got a.read)) (sym a.value_is ∙ (sym (unwritten_keeps_value (kind_of S o) call v quiet) ∙ ap (after_of (kind_of S o) call) a.value_is)) (joined_has_its_parts S.word_bits (parts_of S o) (got a.read) a.small),
   )
 
   pub left_made : (r : Reply) (z : PassState) → does_write call (answer_of (kind_of S o) call v) ≡ false → Releases S o call q2 r z → MakesLocked S o call p r z

@@ -1,34 +1,22 @@
 -- The steps of a call under the lock, as a path of the call.
-use Rattle.std.proofs.Common.{◌≡◌, ◌≢◌, ◌⊎◌, inl, inr, ℕ, suc, Bool, true, false, if◌then◌else◌, List, [], ◌∷◌, ◌++◌, length, Option, Some, refl, ap, sym, ◌∙◌, subst, append_assoc}
+use Rattle.std.proofs.Common.{◌≡◌, ℕ, Bool, true, false, if◌then◌else◌, List, [], Option, Some, refl, ap, ◌∙◌, subst}
 use Rattle.std.specs.Prelude.{◌&&◌, not}
-use Rattle.std.proofs.lemmas.List.{append-nil}
 use Rattle.op_table.specs.declared.call.Call.{Call}
-use Rattle.op_table.specs.declared.call.Call.TheVariants.{Load, Store, Swap, Cas, CasWeak, Add, Sub, And, Nand, Or, Xor, Max, Min, Not, Neg, BitSet, BitClear, BitToggle}
 use Rattle.op_table.specs.declared.call.Reply.{Reply}
-use Rattle.op_table.specs.declared.call.Reply.TheVariants.{Value}
+use Rattle.op_table.specs.CallTests.{is_load, does_write}
 use Rattle.place_core.specs.declared.places.Place.{Place}
 use Rattle.place_core.specs.declared.shape.Shape.{Shape}
-use Rattle.place_core.specs.Shapes.{place_of, kind_of, data_word, lock_word}
+use Rattle.place_core.specs.Shapes.{kind_of, data_word, lock_word}
 use Rattle.place_core.specs.Operations.{path_at}
 use Rattle.place_core.proofs.Earning.{table_reply_is_not_spurious}
 use Rattle.seat_views.specs.declared.view.Item.{Item}
-use Rattle.seat_views.specs.declared.view.Flight.TheVariants.{Idle}
-use Rattle.seat_views.specs.declared.view.StepKind.TheVariants as step
 use Rattle.seat_views.specs.Places.{lock_in, first_in, count_in, HasParts, parts_of, word_of_lock}
-use Rattle.seat_views.specs.Items.{number_at}
-use Rattle.seat_views.specs.Steps.{item, entry}
-use Rattle.seat_views.specs.LockSteps.{last_stamp}
-use Rattle.seat_views.specs.CallTests.{is_load, does_write}
-use Rattle.seat_views.specs.Paths.{eat_run, eat_locked, eat_glance, eat_by, IsPath}
-use Rattle.seat_views.specs.StepCounts.{IsNoGlance}
+use Rattle.seat_views.specs.Steps.{entry}
+use Rattle.seat_views.specs.Paths.{eat_locked, eat_glance, eat_by, IsPath}
 use Rattle.seat_views.specs.States.{PassState}
-use Rattle.seat_views.specs.Makes.{MakesEntry, MakesCall}
-use Rattle.seat_views.proofs.PathFronts.{run_front, number_after}
-use Rattle.seat_views.proofs.PathPieces.{matched_glance_is_path, missed_glance_goes_on}
+use Rattle.seat_views.specs.Makes.{MakesCall}
 use Rattle.seat_views.proofs.ShapePlaces.{count_is}
-use Rattle.seq_lock.specs.declared.glances.Missed.{Missed}
-use Rattle.seq_lock.specs.declared.glances.Missed.TheVariants.{Held, Moved, Last}
-use Rattle.seq_lock.specs.Holds.{Steps, first_word, MakesLocked}
+use Rattle.seq_lock.specs.Holds.{first_word, MakesLocked}
 
 -- in a section no call glances first
 pub straight : (load section : Bool) → section ≡ true → (load && not section) ≡ false

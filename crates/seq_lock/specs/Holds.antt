@@ -4,6 +4,7 @@ use Rattle.op_table.specs.declared.call.Call.{Call}
 use Rattle.op_table.specs.declared.call.Reply.{Reply}
 use Rattle.op_table.specs.Kind.{values_of}
 use Rattle.op_table.specs.Call.{answer_of}
+use Rattle.op_table.specs.CallTests.{does_write}
 use Rattle.place_core.specs.PartValues.{joined, AreParts}
 use Rattle.place_core.specs.declared.shape.Shape.{Shape}
 use Rattle.place_core.specs.Shapes.{place_of, kind_of, data_word}
@@ -13,7 +14,6 @@ use Rattle.seat_views.specs.declared.view.Flight.TheVariants.{Idle, Hold, Glance
 use Rattle.seat_views.specs.declared.view.StepKind.TheVariants as step
 use Rattle.seat_views.specs.Places.{first_in, parts_of, word_of_lock}
 use Rattle.seat_views.specs.PartLists.{got, HasAll}
-use Rattle.seat_views.specs.CallTests.{does_write}
 use Rattle.seat_views.specs.Paths.{eat_run, eat_takes, eat_locked}
 use Rattle.seat_views.specs.States.{PassState, IsKept}
 use Rattle.seat_views.specs.Makes.{MakesEntry}

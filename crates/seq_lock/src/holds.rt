@@ -6,7 +6,6 @@ ghost use Rattle.op_table.specs.Call.{CallFits};
 ghost use Rattle.place_core.specs.Shapes.{kind_of};
 ghost use Rattle.seat_views.specs.declared.view.Flight.TheVariants.{Idle};
 ghost use Rattle.seat_views.specs.Places.{HasParts, parts_of};
-ghost use Rattle.seat_views.specs.CallTests.{does_write};
 ghost use Rattle.seat_views.specs.LockSteps.{HoldsClean, HoldsRead, MayRelease};
 ghost use Rattle.seat_views.specs.States.{IsOf};
 ghost use Rattle.seat_views.specs.LockStates.{Releases};
@@ -92,14 +91,4 @@ pub fn release_same(arena: &Arena, pass: &mut Pass, object: u32, call: &Call) ->
     ensures { Releases arena.now.shape object call.now pass.old result pass.new }
 {
     pass.step_release(arena, object, call)
-}
-
-/// Whether a call that has this reply stores under the lock: it isn't a load, and hasn't failed.
-pub fn writes(call: &Call, reply: &Reply) -> bool
-    ensures { result ≡ does_write call.now reply.now }
-{
-    match call {
-        Call::Load => false,
-        _ => !matches!(reply, Reply::Failed(_)),
-    }
 }

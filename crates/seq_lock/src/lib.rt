@@ -1,6 +1,7 @@
 //! Locks with stamps: the parts of an object under its lock, and glances at them without it.
 #![tactic(auto)]
 
+mod calls;
 mod glances;
 mod holds;
 mod spreads;
@@ -9,6 +10,7 @@ mod tests;
 #[cfg(test)]
 mod trials;
 
+pub use calls::locked;
 pub use glances::{Missed, glance_begin, glance_end, glance_part};
-pub use holds::{held_value, put_value, release, release_same, take, writes};
+pub use holds::{held_value, put_value, release, release_same, take};
 pub use spreads::{Spread, spread_of};

@@ -1,8 +1,8 @@
 //! Holds and glances of one thread, by number.
 
+use crate::Missed;
 use crate::trials::{begin, give, glance_beside, load_beside, open_wide, store};
-use crate::{Missed, writes};
-use op_table::{Call, Reply};
+use op_table::Reply;
 use std::test::*;
 
 #[test]
@@ -36,13 +36,5 @@ fn last_stamp_begins_no_glance(rt: HostRuntime) -> Result<(), Fail> {
     let mut p = give(&arena, &mut root).ok_or("a number is left")?;
     assert!(rt; store(&rt, &arena, &mut p, 1 << 64) == Some(Reply::Unit));
     assert!(rt; begin(&arena, &mut p) == Err(Missed::Last));
-    Ok(())
-}
-
-#[test]
-fn exchange_that_fails_stores_nothing(rt: HostRuntime) -> Result<(), Fail> {
-    assert!(rt; writes(&Call::Cas(1, 2), &Reply::Done(1)));
-    assert!(rt; !writes(&Call::Cas(1, 2), &Reply::Failed(3)));
-    assert!(rt; !writes(&Call::Load, &Reply::Value(3)));
     Ok(())
 }

@@ -2,9 +2,11 @@
 use Rattle.std.proofs.Common.{◌≡◌, ◌≢◌, ◌⊎◌, inl, inr, ℕ, suc, true, false, List, [], ◌∷◌, ◌++◌, length, Some, refl, ap, sym, ◌∙◌, subst, append_assoc}
 use Rattle.std.proofs.lemmas.List.{append-nil}
 use Rattle.op_table.specs.declared.call.Call.{Call}
-use Rattle.op_table.specs.declared.call.Call.TheVariants.{Load, Store, Swap, Cas, CasWeak, Add, Sub, And, Nand, Or, Xor, Max, Min, Not, Neg, BitSet, BitClear, BitToggle}
+use Rattle.op_table.specs.declared.call.Call.TheVariants.{Load}
 use Rattle.op_table.specs.declared.call.Reply.{Reply}
 use Rattle.op_table.specs.declared.call.Reply.TheVariants.{Value}
+use Rattle.op_table.specs.CallTests.{is_load}
+use Rattle.op_table.proofs.CallKinds.{load_is}
 use Rattle.place_core.specs.declared.shape.Shape.{Shape}
 use Rattle.place_core.proofs.Earning.{table_reply_is_not_spurious}
 use Rattle.seat_views.specs.declared.view.Item.{Item}
@@ -13,7 +15,6 @@ use Rattle.seat_views.specs.declared.view.StepKind.TheVariants as step
 use Rattle.seat_views.specs.Places.{HasParts, parts_of, word_of_lock}
 use Rattle.seat_views.specs.Items.{number_at}
 use Rattle.seat_views.specs.Steps.{item, entry}
-use Rattle.seat_views.specs.CallTests.{is_load}
 use Rattle.seat_views.specs.Paths.{eat_run}
 use Rattle.seat_views.specs.StepCounts.{IsNoGlance}
 use Rattle.seat_views.specs.States.{PassState}
@@ -25,26 +26,6 @@ use Rattle.seq_lock.specs.declared.glances.Missed.{Missed}
 use Rattle.seq_lock.specs.declared.glances.Missed.TheVariants.{Held, Moved, Last}
 use Rattle.seq_lock.specs.Holds.{first_word, MakesLocked}
 use Rattle.wide_cell.specs.Looks.{IsWhole, GlanceHits, MissedBy, GlanceMisses}
-
-pub load_is : (call : Call) → is_load call ≡ true → call ≡ Load
-load_is Load e = refl
-load_is (Store a) e = absurd cc
-load_is (Swap a) e = absurd cc
-load_is (Cas x n) e = absurd cc
-load_is (CasWeak x n) e = absurd cc
-load_is (Add a q) e = absurd cc
-load_is (Sub a q) e = absurd cc
-load_is (And a q) e = absurd cc
-load_is (Nand a) e = absurd cc
-load_is (Or a q) e = absurd cc
-load_is (Xor a q) e = absurd cc
-load_is (Max a) e = absurd cc
-load_is (Min a) e = absurd cc
-load_is (Not q) e = absurd cc
-load_is (Neg q) e = absurd cc
-load_is (BitSet p) e = absurd cc
-load_is (BitClear p) e = absurd cc
-load_is (BitToggle p) e = absurd cc
 
 -- ---- numbers of a whole glance
 

@@ -5,49 +5,15 @@ ghost use Rattle.op_table.specs.Call.{CallFits};
 ghost use Rattle.place_core.specs.Shapes.{kind_of};
 ghost use Rattle.seat_views.specs.declared.view.Flight.TheVariants.{Idle};
 ghost use Rattle.seat_views.specs.Places.{HasParts};
-ghost use Rattle.seat_views.specs.CallTests.{is_load};
 ghost use Rattle.seat_views.specs.States.{IsOf};
 ghost use Rattle.seat_views.specs.Makes.{MakesCall};
-ghost use Rattle.seq_lock.specs.Holds.{MakesLocked};
 
 use crate::look::glance;
-use op_table::{Call, Reply};
+use op_table::{Call, Reply, is_load};
 use scalar_laws::Scalar;
 use seat_views::{Arena, Pass};
-use seq_lock::{held_value, put_value, release, release_same, take, writes};
+use seq_lock::locked;
 use std::sync::Wait;
-
-/// Whether a call is a load.
-fn is_load(call: &Call) -> bool
-    ensures { result ≡ is_load call.now }
-{
-    matches!(call, Call::Load)
-}
-
-/// Makes the call under the lock: every part is read, and every part is stored where the call writes.
-fn locked<V: Scalar, R: Wait>(
-    rt: &R,
-    arena: &Arena,
-    pass: &mut Pass,
-    object: u32,
-    call: &Call,
-) -> Reply
-    requires arena { IsOf arena.now pass.old }
-    requires object { HasParts arena.now.shape object }
-    requires kind { V.KIND ≡ kind_of arena.now.shape object }
-    requires fits { CallFits (kind_of arena.now.shape object) call.now }
-    requires rest { pass.old.flight ≡ Idle }
-    ensures { MakesLocked arena.now.shape object call.now pass.old result pass.new }
-{
-    take(rt, arena, pass, object);
-    let value = held_value(arena, pass, object);
-    let (next, reply) = V::from_bits(value).apply(call);
-    if writes(call, &reply) {
-        put_value(arena, pass, object, next.to_bits());
-        return release(arena, pass, object, call);
-    }
-    release_same(arena, pass, object, call)
-}
 
 /// Makes a call on an object with parts. A load glances once, and takes the lock only where the glance missed. Every
 /// other call takes the lock. Under it every part is read. A load and an exchange that fails store nothing, and give

@@ -1,0 +1,42 @@
+//! A whole call under the lock of an object that has parts.
+
+ghost use Rattle.std.specs.Prelude.{◌≡◌};
+ghost use Rattle.op_table.specs.Call.{CallFits};
+ghost use Rattle.place_core.specs.Shapes.{kind_of};
+ghost use Rattle.seat_views.specs.declared.view.Flight.TheVariants.{Idle};
+ghost use Rattle.seat_views.specs.Places.{HasParts};
+ghost use Rattle.seat_views.specs.States.{IsOf};
+ghost use Rattle.seq_lock.specs.Holds.{MakesLocked};
+
+use crate::holds::{held_value, put_value, release, release_same, take};
+use op_table::{Call, Reply, does_write};
+use scalar_laws::Scalar;
+use seat_views::{Arena, Pass};
+use std::sync::Wait;
+
+/// Makes a call under the lock: every part is read, and every part is stored where the call writes, also where the value
+/// stays. A load and an exchange that fails store nothing, and give the lock its stamp back. A weak exchange is made as
+/// a strong one, and so never fails with the value that it expects.
+pub fn locked<V: Scalar, R: Wait>(
+    rt: &R,
+    arena: &Arena,
+    pass: &mut Pass,
+    object: u32,
+    call: &Call,
+) -> Reply
+    requires arena { IsOf arena.now pass.old }
+    requires object { HasParts arena.now.shape object }
+    requires kind { V.KIND ≡ kind_of arena.now.shape object }
+    requires fits { CallFits (kind_of arena.now.shape object) call.now }
+    requires rest { pass.old.flight ≡ Idle }
+    ensures { MakesLocked arena.now.shape object call.now pass.old result pass.new }
+{
+    take(rt, arena, pass, object);
+    let value = held_value(arena, pass, object);
+    let (next, reply) = V::from_bits(value).apply(call);
+    if does_write(call, &reply) {
+        put_value(arena, pass, object, next.to_bits());
+        return release(arena, pass, object, call);
+    }
+    release_same(arena, pass, object, call)
+}
