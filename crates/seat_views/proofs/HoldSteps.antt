@@ -34,7 +34,7 @@ use Rattle.seat_views.specs.declared.view.View.{View}
 use Rattle.seat_views.specs.Places.{value_after, IsLegalIn}
 use Rattle.seat_views.specs.PartLists.{got, HasAll}
 use Rattle.seat_views.specs.Rule.{Lock, shown, part_in, Fits, HoldFits, KnowsHold, KnowsGlance, HoldsUnder, IsHolder, ArenaHolds}
-use Rattle.seat_views.specs.Steps.{Asked, entry, item, grown, moved, Grows}
+use Rattle.seat_views.specs.Steps.{Asked, entry, item, grown, moved, GrowsFrom}
 use Rattle.seat_views.specs.LockSteps.{object_in, read_more, parts_now, write_more, released, take_tells, held_tells, put_tells}
 use Rattle.seat_views.proofs.ShapePlaces.{lane_within, lane_apart, parts_apart, parts_within, parts_hold, one_place, lawful}
 use Rattle.seat_views.proofs.Frames.{SameInParts, all_same, flights_of, flights_set, parts_frame, glances_frame, lanes_frame, hold_frame, glance_frame, holder_set}
@@ -297,7 +297,7 @@ pub release_keeps : (k : Opening) → IsShape k.shape → (o l f n b : ℕ) → 
     → CallFits (kind_of k.shape o) call → AreParts b n (got (parts_now read wrote now)) (after_of (kind_of k.shape o) call (joined b (got read) n))
     → (slots id : ℕ) (m : Me (Unit {0}) View) → m.0.role ≡ role.Pass → m.0.flight ≡ Hold o st read wrote now
     → Allows (ArenaHolds k) slots id m (lock_word k.shape l) (λ _. released wrote st)
-    (λ _ w. (w.1 ≡ m.1) × Grows m.0 (entry m.0.number o call (answer_of (kind_of k.shape o) call (joined b (got read) n))) (item (lock_word k.shape l) kind.Release (released wrote st)) w.0
+    (λ _ w. (w.1 ≡ m.1) × GrowsFrom m.0 (entry m.0.number o call (answer_of (kind_of k.shape o) call (joined b (got read) n))) (item (lock_word k.shape l) kind.Release (released wrote st)) (joined b (got read) n) w.0
     × (joined b (got read) n < values_of (kind_of k.shape o)))
 release_keeps k ok o l f n b place call st read wrote now all fits becomes slots id m pass is s r _ at _ =
     let S : Shape = k.shape in
@@ -330,6 +330,7 @@ release_keeps k ok o l f n b place call st read wrote now all fits becomes slots
     let left : left_by kd x value ≡ after_of kd call value = ap (λ (z : Reply). effect_of z (after_of kd call value) value) replied ∙ effect_of-answer_of kd call value in
     let hist = history_adds S r.log r.count r.owner s.views r.history id v at pass x it refl (lawful S r.log x (In l f n b) place fits (inl (replied, left))) in
     let known_pass = pass_known S r.log r.count r.owner s.views r.history id v at pass in
+    let shaped : v.shape ≡ S = shape_is S r.log r.count r.owner s.views r.history id v at pass in
     let value_now : after_of kd call (joined b (got read) n) ≡ value_after S log' o = ap (after_of kd call) v_is ∙ (sym left ∙ sym (value_own S r.log x (In l f n b) place)) in
     let parts_are : (i : ℕ) → i < n → part_in s.words f i ≡ part_of b i (value_after S log' o) = λ i lt. fits_parts s.words f n base known.0 known.1 i lt ∙ (becomes i lt ∙ ap (part_of b i) value_now) in
     let up = released_up wrote st in
@@ -385,6 +386,7 @@ release_keeps k ok o l f n b place call st read wrote now all fits becomes slots
         record {
           between = known_pass.prefix.0;
           now = ap (λ (z : List Entry). grown v z x it) (sym known_pass.prefix.1);
+          value_is = (λ t. value_after (shaped t) (known_pass.prefix.1 t) o) ∙ sym v_is;
           sound = sound_set S log' r.count r.owner s.views id v w at hist pass;
         },
         subst (λ (z : ℕ). z < values_of kd) (sym v_is) (value_fits S ok r.log legal o),

@@ -1,5 +1,5 @@
 -- What contracts say of the steps on locks and parts.
-use Rattle.std.specs.Prelude.{◌≡◌, ◌≢◌, ◌%◌, ◌^◌, ◌<◌, ℕ, Bool, MatchBool}
+use Rattle.std.specs.Prelude.{◌≡◌, ◌≢◌, ◌%◌, ◌^◌, ◌<◌, ℕ, Bool, MatchBool, ◌++◌}
 use Rattle.op_table.specs.declared.call.Call.{Call}
 use Rattle.op_table.specs.declared.call.Call.TheVariants.{Load}
 use Rattle.op_table.specs.declared.call.Reply.{Reply}
@@ -10,7 +10,7 @@ use Rattle.place_core.specs.declared.shape.Shape.{Shape}
 use Rattle.place_core.specs.Shapes.{kind_of}
 use Rattle.seat_views.specs.declared.view.StepKind.TheVariants as kind
 use Rattle.seat_views.specs.declared.view.Flight.TheVariants.{Idle}
-use Rattle.seat_views.specs.Places.{word_of_lock, word_of_part}
+use Rattle.seat_views.specs.Places.{value_after, word_of_lock, word_of_part}
 use Rattle.seat_views.specs.Steps.{entry, item}
 use Rattle.seat_views.specs.LockSteps.{taken_flight, stamped_flight, read_more, write_more, stamp_in, stored_by, value_read}
 use Rattle.seat_views.specs.States.{PassState, Appends, Moved}
@@ -32,10 +32,12 @@ pub record ReadsHeld (S : Shape) (o i : ℕ) (p : PassState) (n : ℕ) (q : Pass
 pub record PutsPart (S : Shape) (o i : ℕ) (p : PassState) (n : ℕ) (q : PassState) : Type 0 where
   pub moved : Moved p (item (word_of_part S o i) kind.Put n) (write_more p.flight i n) q
 
--- the lock was given up with its stamp, and the call has the reply of the value that was read
+-- the lock was given up with its stamp, and the call has the reply of the value that was read, which is the object's
+-- where the entry comes
 pub record Releases (S : Shape) (o : ℕ) (call : Call) (p : PassState) (r : Reply) (q : PassState) : Type 0 where
   pub reply : r ≡ answer_of (kind_of S o) call (value_read S o p.flight)
   pub appends : Appends p (entry p.number o call r) (item (word_of_lock S o) kind.Release (stored_by p.flight)) q
+  pub value : value_after S (p.seen ++ appends.between) o ≡ value_read S o p.flight
 
 -- the lock's stamp was read, which begins a glance unless it is 1 or the last
 pub record ReadsStamp (S : Shape) (o : ℕ) (p : PassState) (n : ℕ) (q : PassState) : Type 0 where

@@ -17,7 +17,7 @@ use Rattle.seat_views.specs.declared.view.Flight.TheVariants.{Idle, Hold, Glance
 use Rattle.seat_views.specs.declared.view.View.{View}
 use Rattle.seat_views.specs.Places.{parts_of}
 use Rattle.seat_views.specs.PartLists.{look_up, got, HasAll}
-use Rattle.seat_views.specs.Steps.{Asked, entry, item, moved, Grows}
+use Rattle.seat_views.specs.Steps.{Asked, entry, item, moved, Grows, GrowsFrom}
 
 -- the greatest even number of 64 bits. A lock that has come to it keeps it
 abbrev pub last_stamp : ℕ
@@ -140,9 +140,10 @@ held_tells a word m n w = (w.1 ≡ m.1) × (w.0 ≡ moved m.0 (item word kind.He
 abbrev pub put_tells : Asked → ℕ → Me (Unit {0}) View → ℕ → Me (Unit {0}) View → Type 0
 put_tells a word m n w = (w.1 ≡ m.1) × (w.0 ≡ moved m.0 (item word kind.Put n) (write_more m.0.flight a.part n))
 
--- the value that was read is one of the kind
+-- the value that was read is the object's before the entry, and one of the kind
 abbrev pub release_tells : Asked → ℕ → Me (Unit {0}) View → ℕ → Me (Unit {0}) View → Type 0
-release_tells a word m n w = (w.1 ≡ m.1) × Grows m.0 (entry m.0.number a.object a.call (answer_of a.kind a.call a.value)) (item word kind.Release n) w.0 × (a.value < values_of a.kind)
+release_tells a word m n w = (w.1 ≡ m.1) × GrowsFrom m.0 (entry m.0.number a.object a.call (answer_of a.kind a.call a.value)) (item word kind.Release n) a.value w.0
+    × (a.value < values_of a.kind)
 
 abbrev pub stamp_tells : Asked → ℕ → Me (Unit {0}) View → ℕ → Me (Unit {0}) View → Type 0
 stamp_tells a word m n w = (w.1 ≡ m.1) × (w.0 ≡ moved m.0 (item word kind.Stamp n) (stamped_flight a.object n))

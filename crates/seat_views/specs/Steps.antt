@@ -22,7 +22,7 @@ use Rattle.seat_views.specs.declared.view.Flight.TheVariants.{Idle}
 use Rattle.seat_views.specs.declared.view.Role.TheVariants as role
 use Rattle.seat_views.specs.declared.view.Beside.TheVariants as beside
 use Rattle.seat_views.specs.declared.view.View.{View}
-use Rattle.seat_views.specs.Places.{IsLegalIn}
+use Rattle.seat_views.specs.Places.{value_after, IsLegalIn}
 use Rattle.seat_views.specs.Deciding.{decides, fails}
 use Rattle.seat_views.specs.Rule.{caller_of, number_of_ended, entries_of_ended}
 
@@ -132,6 +132,13 @@ pub record GrowsAt (v : View) (x : Entry) (i : Item) (word n : ℕ) (w : View) :
   pub between : List Entry
   pub now : w ≡ grown v (v.seen ++ between) x i
   pub word_is : word_of v.shape (v.seen ++ between) word ≡ n
+  pub sound : IsSoundView w
+
+-- and n was the value of the entry's object before it
+pub record GrowsFrom (v : View) (x : Entry) (i : Item) (n : ℕ) (w : View) : Type 0 where
+  pub between : List Entry
+  pub now : w ≡ grown v (v.seen ++ between) x i
+  pub value_is : value_after v.shape (v.seen ++ between) x.object ≡ n
   pub sound : IsSoundView w
 
 -- the step made no entry, and has seen all: there the data word is n

@@ -11,7 +11,7 @@ use Rattle.seat_views.specs.declared.view.Item.{Item}
 use Rattle.seat_views.specs.declared.view.Flight.{Flight}
 use Rattle.seat_views.specs.declared.view.Flight.TheVariants.{Idle, Hold, Glance}
 use Rattle.seat_views.specs.declared.view.StepKind.TheVariants as step
-use Rattle.seat_views.specs.Places.{first_in, parts_of, word_of_lock}
+use Rattle.seat_views.specs.Places.{value_after, first_in, parts_of, word_of_lock}
 use Rattle.seat_views.specs.PartLists.{got, HasAll}
 use Rattle.seat_views.specs.CallTests.{does_write}
 use Rattle.seat_views.specs.Paths.{eat_run, eat_takes, eat_locked}
@@ -108,11 +108,12 @@ pub record PutsAll (S : Shape) (o : ℕ) (p : PassState) (v : ℕ) (q : PassStat
   pub kept : IsKept q
 
 -- a call was made under the lock: the takes, every part read, every part stored where the call writes, and the release.
--- The reply is the table's, of a value of the object's kind
+-- The reply is the table's, of the object's value where the entry comes, which is one of its kind
 pub record MakesLocked (S : Shape) (o : ℕ) (call : Call) (p : PassState) (r : Reply) (q : PassState) : Type 0 where
   pub steps : List Item
   pub made : MakesEntry o call p r steps q
   pub eaten : eat_locked (word_of_lock S o) (first_word S o) (parts_of S o) (does_write call r) steps ≡ Some []
   pub value : ℕ
+  pub value_is : value_after S (p.seen ++ made.between) o ≡ value
   pub fits : value < values_of (kind_of S o)
   pub reply : r ≡ answer_of (kind_of S o) call value
