@@ -46,7 +46,7 @@ module _ (a : ArenaState) (o : ℕ) (two : HasTwoParts a.shape o) where
 
   -- ---- a lock taken
 
-  pub takes : (p q : PassState) (b : Bool) → IsReady a p → TakesLock a.shape o p b q → MatchBool b (IsTaken a o q) (IsReady a q)
+  pub takes : (p q : PassState) (b : Bool) → IsReady a p → TakesLock a.shape o a.first_stamp p b q → MatchBool b (IsTaken a o q) (IsReady a q)
   takes p q true r t = record { of = moved_of p q _ _ r.of t.moved; stamp = t.found; flight = flight_of p q _ _ t.moved ∙ ap (λ (b : Bool). if b then Idle else Hold o t.found [] false []) (ne_eqb t.found 1 t.won_is) }
   takes p q false r t = record { of = moved_of p q _ _ r.of t.moved; rest = flight_of p q _ _ t.moved ∙ ap (λ (b : Bool). if b then Idle else Hold o t.found [] false []) (eq-eqb t.found 1 t.won_is) }
 
@@ -120,7 +120,7 @@ module _ (a : ArenaState) (o : ℕ) (two : HasTwoParts a.shape o) where
 
   -- ---- a glance
 
-  pub stamps : (p q : PassState) (n : ℕ) → IsReady a p → ReadsStamp a.shape o p n q → (b : Bool) → (b ≡ true → (n ≢ 1) × (n ≢ last_stamp)) → (b ≡ false → (n ≡ 1) ⊎ (n ≡ last_stamp)) → MatchBool b (IsGlanced a o q) (IsReady a q)
+  pub stamps : (p q : PassState) (n : ℕ) → IsReady a p → ReadsStamp a.shape o a.first_stamp p n q → (b : Bool) → (b ≡ true → (n ≢ 1) × (n ≢ last_stamp)) → (b ≡ false → (n ≡ 1) ⊎ (n ≡ last_stamp)) → MatchBool b (IsGlanced a o q) (IsReady a q)
   stamps p q n r h true yes_it not_it = let ne = yes_it refl in record {
     of = moved_of p q _ _ r.of h.moved;
     stamp = n;
@@ -163,7 +163,7 @@ known_more n m read all i lt = dite (ℕ_discrete i n)
     (λ ne. ap (λ (b : Bool). if b then Some m else look_up i read) (ne_eqb i n ne) ∙ (all i (omega arith) ∙ sym (ap (λ (b : Bool). Some (or_zero (if b then Some m else look_up i read))) (ne_eqb i n ne))))
 
 module _ (a : ArenaState) (o : ℕ) where
-  pub stamps_any : (p q : PassState) (n : ℕ) → IsReady a p → ReadsStamp a.shape o p n q → n ≢ 1 → n ≢ last_stamp → SeesParts a o 0 q
+  pub stamps_any : (p q : PassState) (n : ℕ) → IsReady a p → ReadsStamp a.shape o a.first_stamp p n q → n ≢ 1 → n ≢ last_stamp → SeesParts a o 0 q
   stamps_any p q n r h ne far = record {
     of = (let m = h.moved in (ap (λ (x : PassState). x.arena) m.now ∙ r.of.0, ap (λ (x : PassState). x.shape) m.now ∙ r.of.1));
     stamp = n;

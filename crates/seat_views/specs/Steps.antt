@@ -28,7 +28,7 @@ use Rattle.seat_views.specs.Rule.{caller_of, number_of_ended, entries_of_ended}
 
 -- ---- what a step is asked for
 
--- the object and the call; the part; the value that was read; the stamp; of a lane its kind, its lowest bit, how many bits
+-- the object and the call; the part; the value that was read; the stamp of the glance, or the first of the locks; of a lane its kind, its lowest bit, how many bits
 -- it has, and the step that serves the call
 pub record Asked : Type 0 where
   pub object : ℕ
@@ -48,9 +48,9 @@ no_ask = record { object = 0; call = Load; part = 0; value = 0; stamp = 0; kind 
 abbrev pub asked : Kind → ℕ → ℕ → ℕ → Call → WordOp → Asked
 asked k s d o call done = record { object = o; call = call; part = 0; value = 0; stamp = 0; kind = k; shift = s; width = d; done = done }
 
--- an object
-abbrev pub asked_object : ℕ → Asked
-asked_object o = record no_ask { object = o }
+-- an object, and the first stamp of the locks
+abbrev pub asked_object : ℕ → ℕ → Asked
+asked_object o first = record no_ask { object = o; stamp = first }
 
 -- a part
 abbrev pub asked_part : ℕ → Asked

@@ -213,7 +213,7 @@ impl Pass {
         requires arena { IsOf arena.now self.old }
         requires object { HasParts arena.now.shape object }
         requires rest { self.old.flight ≡ Idle }
-        ensures { TakesLock arena.now.shape object self.old result self.new }
+        ensures { TakesLock arena.now.shape object arena.now.first_stamp self.old result self.new }
     {
         let cell = parts_cell(arena, object);
         let found = take_as::<Brand>(arena, &mut self.seat, object, cell);
@@ -270,7 +270,7 @@ impl Pass {
         requires arena { IsOf arena.now self.old }
         requires object { HasParts arena.now.shape object }
         requires rest { self.old.flight ≡ Idle }
-        ensures { ReadsStamp arena.now.shape object self.old result self.new }
+        ensures { ReadsStamp arena.now.shape object arena.now.first_stamp self.old result self.new }
     {
         let cell = parts_cell(arena, object);
         let found = stamp_as::<Brand>(arena, &mut self.seat, object, cell);
