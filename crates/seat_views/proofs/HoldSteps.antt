@@ -137,8 +137,12 @@ take_keeps k ok a l f n b place slots id m rest first_is s r _ at _ =
               d.flight (glance_frame S r.log r.log r.locks s.words words' same d.flight (let g = r.glances in g.glances j d there)));
         };
       },
-      (refl, ap (λ (c : Bool). moved v it (if c then Idle else fl)) (sym (ne_eqb q 1 not_held)), (λ _. even),
-        λ _ pass. subst (λ (z : ℕ). IsStampIn v.shape (lock_in (place_of v.shape o)) z v.number v.given v.seen q) (sym first_is) (stamp_there k s r id v at pass o l f n b q place within.0 free.1)),
+      (
+        refl,
+        ap (λ (c : Bool). moved v it (if c then Idle else fl)) (sym (ne_eqb q 1 not_held)),
+        (λ _. even),
+        λ _ pass. subst (λ (z : ℕ). IsStampIn v.shape (lock_in (place_of v.shape o)) z v.number v.given v.seen q) (sym first_is) (stamp_there k s r id v at pass o l f n b q place within.0 free.1),
+      ),
     ))
 
 never : false ≡ true → ⊥

@@ -35,6 +35,10 @@ under_one : (S : Shape) (l : ℕ) (x : Entry) (f n b : ℕ) → place_of S x.obj
 unfolding entries_under
 under_one S l x f n b place = ap (λ (p : Option Place). (if is_under l p then 1 else 0) + 0) place ∙ ap (λ (c : Bool). (if c then 1 else 0) + 0) (eq-eqb l l refl)
 
+pub under_none : (S : Shape) (l : ℕ) → entries_under S l [] ≡ 0
+unfolding entries_under
+under_none S l = refl
+
 -- one more on an object under the lock
 pub under_own : (S : Shape) (l : ℕ) (H : List Entry) (x : Entry) (f n b : ℕ) → place_of S x.object ≡ Some (In l f n b) → entries_under S l (H ++ x ∷ []) ≡ entries_under S l H + 1
 under_own S l H x f n b place = under_append S l H (x ∷ []) ∙ ap (λ (z : ℕ). entries_under S l H + z) (under_one S l x f n b place)
