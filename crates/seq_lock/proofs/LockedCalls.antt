@@ -88,10 +88,10 @@ stays k (BitToggle p) v e = absurd (never e)
 -- ---- the pieces
 
 -- a lock that was just taken has nothing written under it
-pub took_clean : (S : Shape) (o : ℕ) (p q : PassState) → Took S o p q → HoldsClean o q.flight
-took_clean S o p q t = subst (HoldsClean o) (sym (steps_flight p q t.steps (Hold o t.stamp [] false []) t.state)) (refl, refl)
+pub took_clean : (S : Shape) (o first : ℕ) (p q : PassState) → Took S o first p q → HoldsClean o q.flight
+took_clean S o first p q t = subst (HoldsClean o) (sym (steps_flight p q t.steps (Hold o t.stamp [] false []) t.state)) (refl, refl)
 
-module _ (S : Shape) (o : ℕ) (call : Call) (p q1 : PassState) (v : ℕ) (q2 : PassState) (t : Took S o p q1) (a : ReadsAll S o q1 v q2) where
+module _ (S : Shape) (o first : ℕ) (call : Call) (p q1 : PassState) (v : ℕ) (q2 : PassState) (t : Took S o first p q1) (a : ReadsAll S o q1 v q2) where
   held_flight : q2.flight ≡ Hold o t.stamp a.read false []
   held_flight = steps_flight q1 q2 a.steps (with_read q1.flight a.read) a.state ∙ ap (λ (f : Flight). with_read f a.read) (steps_flight p q1 t.steps (Hold o t.stamp [] false []) t.state)
 

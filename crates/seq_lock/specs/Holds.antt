@@ -16,6 +16,7 @@ use Rattle.seat_views.specs.PartLists.{got, HasAll}
 use Rattle.seat_views.specs.CallTests.{does_write}
 use Rattle.seat_views.specs.Paths.{eat_run, eat_takes, eat_locked}
 use Rattle.seat_views.specs.States.{PassState, IsKept}
+use Rattle.seat_views.specs.LockStates.{IsStampOf}
 use Rattle.seat_views.specs.Makes.{MakesEntry}
 
 -- the pass made these steps and no entry, and then f is in flight; where f is nothing they are the steps of no call, as
@@ -51,12 +52,14 @@ pub record Trying (S : Shape) (o : ℕ) (p q : PassState) : Type 0 where
   pub goes_on : (U : List Item) → eat_takes (word_of_lock S o) (steps ++ U) ≡ eat_takes (word_of_lock S o) U
   pub state : Steps p steps Idle q
 
--- takes that found the lock held, and one that found another number, the stamp: the lock is held
-pub record Took (S : Shape) (o : ℕ) (p q : PassState) : Type 0 where
+-- takes that found the lock held, and one that found another number, the lock's stamp: the lock is held. Each lock began
+-- with the first stamp
+pub record Took (S : Shape) (o first : ℕ) (p q : PassState) : Type 0 where
   pub steps : List Item
   pub stamp : ℕ
   pub eaten : eat_takes (word_of_lock S o) steps ≡ Some (stamp, [])
   pub even : stamp % 2 ≡ 0
+  pub found : IsStampOf S o first p stamp
   pub state : Steps p steps (Hold o stamp [] false []) q
   pub kept : IsKept q
 

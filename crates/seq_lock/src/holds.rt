@@ -25,7 +25,7 @@ pub fn take<R: Wait>(rt: &R, arena: &Arena, pass: &mut Pass, object: u32)
     requires arena { IsOf arena.now pass.old }
     requires object { HasParts arena.now.shape object }
     requires rest { pass.old.flight ≡ Idle }
-    ensures { Took arena.now.shape object pass.old pass.new }
+    ensures { Took arena.now.shape object arena.now.first_stamp pass.old pass.new }
 {
     let pause = Backoff::new();
     for _ in rt.forever() {
