@@ -1,5 +1,5 @@
 -- The parts of the rule that a step does not touch.
-use Rattle.std.proofs.Common.{◌≡◌, ◌≢◌, ℕ, ◌<◌, ◌^◌, List, [], ◌∷◌, ◌++◌, length, set, refl, ap, sym, ◌∙◌, subst, Some}
+use Rattle.std.proofs.Common.{◌≡◌, ◌≢◌, ℕ, ◌≤◌, ◌<◌, ◌+◌, ◌*◌, ◌^◌, arith, List, [], ◌∷◌, ◌++◌, length, set, refl, ap, sym, ◌∙◌, subst, Some}
 use Rattle.std.specs.Prelude.{slice_index}
 use mathlib.Core.Option.{some, some-injective}
 use mathlib.Core.Logic.{dite}
@@ -15,6 +15,7 @@ use Rattle.seat_views.specs.declared.view.Flight.{Flight}
 use Rattle.seat_views.specs.declared.view.Flight.TheVariants.{Idle, Hold, Glance}
 use Rattle.seat_views.specs.declared.view.View.{View}
 use Rattle.seat_views.specs.Places.{value_after}
+use Rattle.seat_views.specs.Stamps.{entries_under}
 use Rattle.seat_views.specs.Rule.{Lanes, Lock, part_in, Fits, KnowsHold, KnowsGlance, HoldsUnder, IsHolder, Parts, Glances}
 
 pub lanes_frame : (S : Shape) (log log' : List Entry) (words words' : List ℕ) → Lanes S log words → length words' ≡ length words → slice_index words' 0 ≡ slice_index words 0
@@ -65,6 +66,10 @@ module _ (S : Shape) (log log' : List Entry) (locks : ℕ → Lock) (words words
     reads = λ s d. fits_frame words words' h.first h.count read e.0 (h.reads s d);
   }
 
+-- a stamp's bound, where the entries on the lock's objects are no fewer
+pub upto_more : (stamp first n m : ℕ) → stamp ≤ first + 2 * n → n ≤ m → stamp ≤ first + 2 * m
+upto_more stamp first n m upto more = omega arith
+
 -- what is known of the calls in flight of all views
 pub record Flights (S : Shape) (log : List Entry) (locks : ℕ → Lock) (words : List ℕ) (views : List View) : Type 0 where
   pub holds : (j : ℕ) (v : View) → get_elem? views j ≡ some v → KnowsHold S log locks words j v.flight
@@ -77,11 +82,12 @@ module _ (S : Shape) (first : ℕ) (log : List Entry) (locks : ℕ → Lock) (wo
 
   -- where no lock and no part changed
   module _ (log' : List Entry) (words' : List ℕ) (same : SameInParts S log log' words words') (views' : List View) (f : Flights S log locks words views') where
-    pub parts_frame : ((l : ℕ) → l < S.locks → slice_index words' (lock_word S l) ≡ slice_index words (lock_word S l)) → Parts S first log' locks words' views'
-    parts_frame lock_same = record {
+    pub parts_frame : ((l : ℕ) → l < S.locks → slice_index words' (lock_word S l) ≡ slice_index words (lock_word S l)) → ((l : ℕ) → entries_under S l log ≤ entries_under S l log') → Parts S first log' locks words' views'
+    parts_frame lock_same more = record {
       locked = λ l lt. lock_same l lt ∙ p.locked l lt;
       even = p.even;
       from_first = p.from_first;
+      upto_first = λ l lt. upto_more (locks l).stamp first (entries_under S l log) (entries_under S l log') (p.upto_first l lt) (more l);
       clean = p.clean;
       holders = f.holders;
       small = λ o l h n b i at lt. let e = same o l h n b at in subst (λ (z : ℕ). z < 2 ^ b) (sym (e.0 i lt)) (p.small o l h n b i at lt);

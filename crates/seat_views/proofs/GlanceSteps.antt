@@ -22,21 +22,23 @@ use Rattle.seat_views.specs.declared.view.Item.{Item}
 use Rattle.seat_views.specs.declared.view.Flight.{Flight}
 use Rattle.seat_views.specs.declared.view.Flight.TheVariants.{Idle, Glance}
 use Rattle.seat_views.specs.declared.view.View.{View}
-use Rattle.seat_views.specs.Places.{value_after, IsLegalIn}
+use Rattle.seat_views.specs.Places.{value_after, IsLegalIn, lock_in}
+use Rattle.seat_views.specs.Stamps.{IsStampIn}
 use Rattle.seat_views.specs.PartLists.{got, HasAll}
 use Rattle.seat_views.specs.Rule.{shown, part_in, Fits, GlanceFits, KnowsGlance, HoldsUnder, ArenaHolds}
 use Rattle.seat_views.specs.Steps.{Asked, entry, item, grown, moved, Grows}
-use Rattle.seat_views.specs.LockSteps.{last_stamp, read_more, stamp_tells, read_tells}
+use Rattle.seat_views.specs.LockSteps.{last_stamp, read_more, StampTold, stamp_tells, read_tells}
 use Rattle.seat_views.proofs.ShapePlaces.{parts_within, parts_hold, one_place, lawful}
 use Rattle.seat_views.proofs.Frames.{SameInParts, flights_of, flights_set, parts_frame, glances_frame, lanes_frame}
 use Rattle.seat_views.proofs.Histories.{pass_known, shape_is, history_adds, sound_set}
+use Rattle.seat_views.proofs.StampFacts.{under_more, stamp_there}
 use Rattle.seat_views.proofs.LockFacts.{free_of, fits_more, fits_are}
 use Rattle.seat_views.proofs.HoldSteps.{load_step}
 
 -- a stamp is read
-pub stamp_keeps : (k : Opening) → IsShape k.shape → (a : Asked) (l f n b : ℕ) → place_of k.shape a.object ≡ Some (In l f n b) → (slots id : ℕ) (m : Me (Unit {0}) View) → m.0.flight ≡ Idle
+pub stamp_keeps : (k : Opening) → IsShape k.shape → (a : Asked) (l f n b : ℕ) → place_of k.shape a.object ≡ Some (In l f n b) → (slots id : ℕ) (m : Me (Unit {0}) View) → m.0.flight ≡ Idle → a.stamp ≡ k.first_stamp
     → Allows (ArenaHolds k) slots id m (lock_word k.shape l) (λ x. x) (stamp_tells a (lock_word k.shape l) m)
-stamp_keeps k ok a l f n b place slots id m rest s r _ at small =
+stamp_keeps k ok a l f n b place slots id m rest first_is s r _ at small =
     let S : Shape = k.shape in
     let o : ℕ = a.object in
     let v : View = m.0 in
@@ -47,13 +49,15 @@ stamp_keeps k ok a l f n b place slots id m rest s r _ at small =
     let old = r.parts in
     let locked : q ≡ shown (r.locks l) = old.locked l within.0 in
     let none : (f : Flight) → (z : ℕ) → HoldsUnder S z v.flight → HoldsUnder S z f = λ f z u. absurd (subst (HoldsUnder S z) rest u) in
+    let told : q ≢ 1 → StampTold a v q = λ not_held _ pass. subst (λ (z : ℕ). IsStampIn v.shape (lock_in (place_of v.shape o)) z v.number v.given v.seen q) (sym first_is)
+    (stamp_there k s r id v at pass o l f n b q place within.0 (free_of (r.locks l) q locked not_held).1) in
     dite (ℕ_discrete q 1)
     (λ held. (
       moved v it Idle,
       keeps,
       tt,
       load_step k s r id v at it Idle tt tt (none Idle) word,
-      (refl, ap (λ (c : Bool). moved v it (if c then Idle else (if q == last_stamp then Idle else Glance o q []))) (sym (eq-eqb q 1 held))),
+      (refl, ap (λ (c : Bool). moved v it (if c then Idle else (if q == last_stamp then Idle else Glance o q []))) (sym (eq-eqb q 1 held)), λ ne. absurd (ne held)),
     ))
     (λ not_held. dite (ℕ_discrete q last_stamp)
     (λ ends. (
@@ -61,7 +65,7 @@ stamp_keeps k ok a l f n b place slots id m rest s r _ at small =
       keeps,
       tt,
       load_step k s r id v at it Idle tt tt (none Idle) word,
-      (refl, ap (λ (c : Bool × Bool). moved v it (if c.0 then Idle else (if c.1 then Idle else Glance o q []))) (λ i. (sym (ne_eqb q 1 not_held) i, sym (eq-eqb q last_stamp ends) i))),
+      (refl, ap (λ (c : Bool × Bool). moved v it (if c.0 then Idle else (if c.1 then Idle else Glance o q []))) (λ i. (sym (ne_eqb q 1 not_held) i, sym (eq-eqb q last_stamp ends) i)), told not_held),
     ))
     (λ not_last.
     let free = free_of (r.locks l) q locked not_held in
@@ -74,7 +78,7 @@ stamp_keeps k ok a l f n b place slots id m rest s r _ at small =
       load_step k s r id v at it (Glance o q []) tt
           record { lock = l; first = f; count = n; bits = b; place = place; even = even; below = omega arith; upto = omega arith; reads = λ _ _ i z lt bad. absurd (cc (bad)) }
           (none (Glance o q [])) word,
-      (refl, ap (λ (c : Bool × Bool). moved v it (if c.0 then Idle else (if c.1 then Idle else Glance o q []))) (λ i. (sym (ne_eqb q 1 not_held) i, sym (ne_eqb q last_stamp not_last) i))),
+      (refl, ap (λ (c : Bool × Bool). moved v it (if c.0 then Idle else (if c.1 then Idle else Glance o q []))) (λ i. (sym (ne_eqb q 1 not_held) i, sym (ne_eqb q last_stamp not_last) i)), told not_held),
     )))
 
 -- a part is read in a glance
@@ -157,7 +161,7 @@ match_keeps k ok o l f n b place st read all slots id m pass is s r _ at _ =
         locks = r.locks;
         history = hist;
         lanes = lanes_frame S r.log log' s.words s.words r.lanes refl refl (λ p u t d there. (refl, law.1 u));
-        parts = parts_frame S k.first_stamp r.log r.locks s.words s.views r.parts r.glances log' s.words same (set s.views id w) flights (λ l lt. refl);
+        parts = parts_frame S k.first_stamp r.log r.locks s.words s.views r.parts r.glances log' s.words same (set s.views id w) flights (λ l lt. refl) (under_more S r.log (x ∷ []));
         glances = glances_frame S k.first_stamp r.log r.locks s.words s.views r.parts r.glances log' s.words same (set s.views id w) flights;
       },
       (

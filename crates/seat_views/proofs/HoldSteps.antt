@@ -31,15 +31,17 @@ use Rattle.seat_views.specs.declared.view.Item.{Item}
 use Rattle.seat_views.specs.declared.view.Flight.{Flight}
 use Rattle.seat_views.specs.declared.view.Flight.TheVariants.{Idle, Hold}
 use Rattle.seat_views.specs.declared.view.View.{View}
-use Rattle.seat_views.specs.Places.{value_after, IsLegalIn}
+use Rattle.seat_views.specs.Places.{value_after, IsLegalIn, lock_in}
+use Rattle.seat_views.specs.Stamps.{entries_under, IsStampIn}
 use Rattle.seat_views.specs.PartLists.{got, HasAll}
 use Rattle.seat_views.specs.Rule.{Lock, shown, part_in, Fits, HoldFits, KnowsHold, KnowsGlance, HoldsUnder, IsHolder, ArenaHolds}
-use Rattle.seat_views.specs.Steps.{Asked, entry, item, grown, moved, Grows}
+use Rattle.seat_views.specs.Steps.{Asked, entry, item, grown, moved, GrowsFrom}
 use Rattle.seat_views.specs.LockSteps.{object_in, read_more, parts_now, write_more, released, take_tells, held_tells, put_tells}
 use Rattle.seat_views.proofs.ShapePlaces.{lane_within, lane_apart, parts_apart, parts_within, parts_hold, one_place, lawful}
-use Rattle.seat_views.proofs.Frames.{SameInParts, all_same, flights_of, flights_set, parts_frame, glances_frame, lanes_frame, hold_frame, glance_frame, holder_set}
+use Rattle.seat_views.proofs.Frames.{SameInParts, all_same, flights_of, flights_set, parts_frame, glances_frame, lanes_frame, hold_frame, glance_frame, holder_set, upto_more}
 use Rattle.seat_views.proofs.Histories.{pass_known, shape_is, history_adds, history_moved, sound_set}
-use Rattle.seat_views.proofs.LockFacts.{set_lock, lock_here, lock_else, free_of, lock_same_parts, lock_lanes, lock_shows, each_lock, hold_other, SameBut, hold_but, glance_step, glance_put, glance_log, fits_more, has_more, fits_parts, fits_are, base_of, put_fits, released_even, released_up}
+use Rattle.seat_views.proofs.StampFacts.{under_own, under_more, under_same, stamp_there}
+use Rattle.seat_views.proofs.LockFacts.{set_lock, lock_here, lock_else, free_of, lock_same_parts, lock_lanes, lock_shows, each_lock, hold_other, SameBut, hold_but, glance_step, glance_put, glance_log, fits_more, has_more, fits_parts, fits_are, base_of, put_fits, released_even, released_up, released_near}
 
 -- a load, after which the view has another call in flight
 pub load_step : (k : Opening) (s : State (Unit {0}) View) (r : ArenaHolds k s) (id : ℕ) (v : View) → get_elem? s.views id ≡ some v → (i : Item) (f : Flight)
@@ -56,14 +58,14 @@ load_step k s r id v at i f holds glances under j =
       locks = r.locks;
       history = history_moved S r.log r.count r.owner s.views r.history id v at i f;
       lanes = r.lanes;
-      parts = parts_frame S k.first_stamp r.log r.locks s.words s.views r.parts r.glances r.log s.words (all_same S r.log s.words) (set s.views id w) flights (λ l lt. refl);
+      parts = parts_frame S k.first_stamp r.log r.locks s.words s.views r.parts r.glances r.log s.words (all_same S r.log s.words) (set s.views id w) flights (λ l lt. refl) (under_same S r.log);
       glances = glances_frame S k.first_stamp r.log r.locks s.words s.views r.parts r.glances r.log s.words (all_same S r.log s.words) (set s.views id w) flights;
     }
 
 -- the lock is swapped for 1
-pub take_keeps : (k : Opening) → IsShape k.shape → (a : Asked) (l f n b : ℕ) → place_of k.shape a.object ≡ Some (In l f n b) → (slots id : ℕ) (m : Me (Unit {0}) View) → m.0.flight ≡ Idle
+pub take_keeps : (k : Opening) → IsShape k.shape → (a : Asked) (l f n b : ℕ) → place_of k.shape a.object ≡ Some (In l f n b) → (slots id : ℕ) (m : Me (Unit {0}) View) → m.0.flight ≡ Idle → a.stamp ≡ k.first_stamp
     → Allows (ArenaHolds k) slots id m (lock_word k.shape l) (λ _. 1) (take_tells a (lock_word k.shape l) m)
-take_keeps k ok a l f n b place slots id m rest s r _ at _ =
+take_keeps k ok a l f n b place slots id m rest first_is s r _ at _ =
     let S : Shape = k.shape in
     let o : ℕ = a.object in
     let v : View = m.0 in
@@ -80,7 +82,7 @@ take_keeps k ok a l f n b place slots id m rest s r _ at _ =
       tt,
       subst (λ (x : ℕ). ArenaHolds k record { words = set s.words word x; homes = s.homes; views = set s.views id (moved v it Idle) }) held
           (load_step k s r id v at it Idle tt tt (λ j u. subst (HoldsUnder S j) rest u) word),
-      (refl, ap (λ (c : Bool). moved v it (if c then Idle else Hold o q [] false [])) (sym (eq-eqb q 1 held)), λ ne. absurd (ne held)),
+      (refl, ap (λ (c : Bool). moved v it (if c then Idle else Hold o q [] false [])) (sym (eq-eqb q 1 held)), (λ ne. absurd (ne held)), λ ne. absurd (ne held)),
     ))
     (λ not_held.
     let free = free_of (r.locks l) q locked not_held in
@@ -109,6 +111,8 @@ take_keeps k ok a l f n b place slots id m rest s r _ at _ =
           locked = lock_shows S r.locks s.words l 1 c within.0 lanes.sized refl old.locked;
           even = each_lock (λ i z. i < S.locks → z.stamp % 2 ≡ 0) r.locks l c (λ _. even) (λ i _ lt. old.even i lt);
           from_first = each_lock (λ i z. i < S.locks → k.first_stamp ≤ z.stamp) r.locks l c (λ lt. subst (λ (z : ℕ). k.first_stamp ≤ z) (sym free.1) (old.from_first l lt)) (λ i _ lt. old.from_first i lt);
+          upto_first = each_lock (λ i z. i < S.locks → z.stamp ≤ k.first_stamp + 2 * entries_under S i r.log) r.locks l c
+              (λ lt. subst (λ (z : ℕ). z ≤ k.first_stamp + 2 * entries_under S l r.log) (sym free.1) (old.upto_first l lt)) (λ i _ lt. old.upto_first i lt);
           clean = each_lock (λ i z. z.holder ≡ None → z.dirty ≡ false) r.locks l c (λ _. refl) (λ i _ e. old.clean i e);
           holders = each_lock (λ i z. (j : ℕ) → z.holder ≡ Some j → IsHolder S i (set s.views id w) j) r.locks l c
               (λ j e. let is : id ≡ j = cc (e) in record { view = w; there = subst (λ (z : ℕ). get_elem? (set s.views id w) z ≡ some w) is (set_own s.views id w v at); under = (f, n, b, place) })
@@ -133,7 +137,12 @@ take_keeps k ok a l f n b place slots id m rest s r _ at _ =
               d.flight (glance_frame S r.log r.log r.locks s.words words' same d.flight (let g = r.glances in g.glances j d there)));
         };
       },
-      (refl, ap (λ (c : Bool). moved v it (if c then Idle else fl)) (sym (ne_eqb q 1 not_held)), λ _. even),
+      (
+        refl,
+        ap (λ (c : Bool). moved v it (if c then Idle else fl)) (sym (ne_eqb q 1 not_held)),
+        (λ _. even),
+        λ _ pass. subst (λ (z : ℕ). IsStampIn v.shape (lock_in (place_of v.shape o)) z v.number v.given v.seen q) (sym first_is) (stamp_there k s r id v at pass o l f n b q place within.0 free.1),
+      ),
     ))
 
 never : false ≡ true → ⊥
@@ -257,6 +266,7 @@ put_keeps k ok a o l f n b place inside st read wrote now all x slots id m fits_
           locked = λ j lt. get_or-set_other s.words word (lock_word S j) x 0 (λ e. omega arith) ∙ (old.locked j lt ∙ sym (shows j));
           even = λ j lt. ap (λ (z : ℕ). z % 2) (stamps j) ∙ old.even j lt;
           from_first = λ j lt. subst (λ (z : ℕ). k.first_stamp ≤ z) (sym (stamps j)) (old.from_first j lt);
+          upto_first = λ j lt. subst (λ (z : ℕ). z ≤ k.first_stamp + 2 * entries_under S j r.log) (sym (stamps j)) (old.upto_first j lt);
           clean = each_lock (λ j z. z.holder ≡ None → z.dirty ≡ false) r.locks l c (λ e. absurd (cc (e))) (λ j _ e. old.clean j e);
           holders = each_lock (λ j z. (d : ℕ) → z.holder ≡ Some d → IsHolder S j (set s.views id w) d) r.locks l c
               (λ d e. holder_set S l s.views id v w at (still l) d (old.holders l d (held ∙ e)))
@@ -292,12 +302,16 @@ put_keeps k ok a o l f n b place inside st read wrote now all x slots id m fits_
       (refl, ap (λ (z : Flight). moved v it (write_more z i x)) (sym is)),
     )
 
+-- a stamp's bound, where it is at most two more and there is one more entry on the lock's objects
+upto_one : (q st old first n : ℕ) → q ≤ st + 2 → old ≡ st → old ≤ first + 2 * n → q ≤ first + 2 * (n + 1)
+upto_one q st old first n near is upto = omega arith
+
 -- the lock is given up, and the call enters the history
 pub release_keeps : (k : Opening) → IsShape k.shape → (o l f n b : ℕ) → place_of k.shape o ≡ Some (In l f n b) → (call : Call) (st : ℕ) (read : List (ℕ × ℕ)) (wrote : Bool) (now : List (ℕ × ℕ)) → HasAll n read
     → CallFits (kind_of k.shape o) call → AreParts b n (got (parts_now read wrote now)) (after_of (kind_of k.shape o) call (joined b (got read) n))
     → (slots id : ℕ) (m : Me (Unit {0}) View) → m.0.role ≡ role.Pass → m.0.flight ≡ Hold o st read wrote now
     → Allows (ArenaHolds k) slots id m (lock_word k.shape l) (λ _. released wrote st)
-    (λ _ w. (w.1 ≡ m.1) × Grows m.0 (entry m.0.number o call (answer_of (kind_of k.shape o) call (joined b (got read) n))) (item (lock_word k.shape l) kind.Release (released wrote st)) w.0
+    (λ _ w. (w.1 ≡ m.1) × GrowsFrom m.0 (entry m.0.number o call (answer_of (kind_of k.shape o) call (joined b (got read) n))) (item (lock_word k.shape l) kind.Release (released wrote st)) (joined b (got read) n) w.0
     × (joined b (got read) n < values_of (kind_of k.shape o)))
 release_keeps k ok o l f n b place call st read wrote now all fits becomes slots id m pass is s r _ at _ =
     let S : Shape = k.shape in
@@ -330,6 +344,7 @@ release_keeps k ok o l f n b place call st read wrote now all fits becomes slots
     let left : left_by kd x value ≡ after_of kd call value = ap (λ (z : Reply). effect_of z (after_of kd call value) value) replied ∙ effect_of-answer_of kd call value in
     let hist = history_adds S r.log r.count r.owner s.views r.history id v at pass x it refl (lawful S r.log x (In l f n b) place fits (inl (replied, left))) in
     let known_pass = pass_known S r.log r.count r.owner s.views r.history id v at pass in
+    let shaped : v.shape ≡ S = shape_is S r.log r.count r.owner s.views r.history id v at pass in
     let value_now : after_of kd call (joined b (got read) n) ≡ value_after S log' o = ap (after_of kd call) v_is ∙ (sym left ∙ sym (value_own S r.log x (In l f n b) place)) in
     let parts_are : (i : ℕ) → i < n → part_in s.words f i ≡ part_of b i (value_after S log' o) = λ i lt. fits_parts s.words f n base known.0 known.1 i lt ∙ (becomes i lt ∙ ap (part_of b i) value_now) in
     let up = released_up wrote st in
@@ -351,6 +366,9 @@ release_keeps k ok o l f n b place call st read wrote now all fits becomes slots
           locked = lock_shows S r.locks s.words l q c within.0 lanes.sized refl old.locked;
           even = each_lock (λ i z. i < S.locks → z.stamp % 2 ≡ 0) r.locks l c (λ lt. released_even wrote st (ap (λ (z : ℕ). z % 2) (sym stamp_is) ∙ old.even l lt)) (λ i _ lt. old.even i lt);
           from_first = each_lock (λ i z. i < S.locks → k.first_stamp ≤ z.stamp) r.locks l c (λ _. up_first) (λ i _ lt. old.from_first i lt);
+          upto_first = each_lock (λ i z. i < S.locks → z.stamp ≤ k.first_stamp + 2 * entries_under S i log') r.locks l c
+              (λ lt. subst (λ (z : ℕ). q ≤ k.first_stamp + 2 * z) (sym (under_own S l r.log x f n b place)) (upto_one q st (r.locks l).stamp k.first_stamp (entries_under S l r.log) (released_near wrote st) stamp_is (old.upto_first l lt)))
+              (λ i _ lt. upto_more (r.locks i).stamp k.first_stamp (entries_under S i r.log) (entries_under S i log') (old.upto_first i lt) (under_more S r.log (x ∷ []) i));
           clean = each_lock (λ i z. z.holder ≡ None → z.dirty ≡ false) r.locks l c (λ _. refl) (λ i _ e. old.clean i e);
           holders = each_lock (λ i z. (j : ℕ) → z.holder ≡ Some j → IsHolder S i (set s.views id w) j) r.locks l c
               (λ j e. absurd (cc (e)))
@@ -385,6 +403,7 @@ release_keeps k ok o l f n b place call st read wrote now all fits becomes slots
         record {
           between = known_pass.prefix.0;
           now = ap (λ (z : List Entry). grown v z x it) (sym known_pass.prefix.1);
+          value_is = (λ t. value_after (shaped t) (known_pass.prefix.1 t) o) ∙ sym v_is;
           sound = sound_set S log' r.count r.owner s.views id v w at hist pass;
         },
         subst (λ (z : ℕ). z < values_of kd) (sym v_is) (value_fits S ok r.log legal o),

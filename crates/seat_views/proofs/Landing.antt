@@ -21,9 +21,9 @@ use Rattle.seat_views.specs.declared.view.Flight.{Flight}
 use Rattle.seat_views.specs.declared.view.Flight.TheVariants.{Idle}
 use Rattle.seat_views.specs.declared.view.StepKind.TheVariants as kind
 use Rattle.seat_views.specs.declared.view.View.{View}
-use Rattle.seat_views.specs.Places.{data_in, shift_in, width_in, data_of_lane, word_of_lane, lane_at}
+use Rattle.seat_views.specs.Places.{value_after, data_in, shift_in, width_in, data_of_lane, word_of_lane, lane_at}
 use Rattle.seat_views.specs.Deciding.{look_settles, lost_try_settles}
-use Rattle.seat_views.specs.Steps.{asked, entry, item, op_item, moved, IsSoundView, Grows, GrowsAt, Sees, MakesAt}
+use Rattle.seat_views.specs.Steps.{asked, entry, item, op_item, moved, IsSoundView, Grows, GrowsAt, GrowsFrom, Sees, MakesAt}
 use Rattle.seat_views.specs.Moves.{giver, newcomer}
 use Rattle.seat_views.specs.Rule.{first_view}
 use Rattle.seat_views.specs.States.{PassState, state_of, IsKept, Appends, AppendsAt, Looked, Moved, Gives, Opens}
@@ -45,6 +45,10 @@ module _ (z z' : TableId) (same : z' ≡ z) (v w : View) where
     rest = (λ t. state_of (same t) (g.now t)) ∙ (λ t. record (state_of z v) { seen = sym e t; mine = v.mine ++ x ∷ []; trail = v.trail ++ i ∷ []; flight = Idle });
     kept = kept_of z' w g.sound;
   }
+
+  pub appends_from : (x : Entry) (i : Item) (n : ℕ) → GrowsFrom v x i n w → (a : Appends (state_of z v) x i (state_of z' w)) × (value_after v.shape (v.seen ++ a.between) x.object ≡ n)
+  unfolding appends_of
+  appends_from x i n g = (appends_of x i record { between = g.between; now = g.now; sound = g.sound }, g.value_is)
 
   appends_at : (x : Entry) (i : Item) (word n : ℕ) → GrowsAt v x i word n w → AppendsAt (state_of z v) x i word n (state_of z' w)
   appends_at x i word n g = let e : w.seen ≡ (v.seen ++ g.between) ++ x ∷ [] = ap (λ (u : View). u.seen) g.now in record {

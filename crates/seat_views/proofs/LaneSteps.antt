@@ -40,6 +40,7 @@ use Rattle.seat_views.specs.Steps.{Asked, lane_in, entry, item, op_item, grown, 
 use Rattle.seat_views.proofs.ShapePlaces.{lane_within, lane_apart, lawful}
 use Rattle.seat_views.proofs.Frames.{SameInParts, all_same, flights_of, flights_set, parts_frame, glances_frame}
 use Rattle.seat_views.proofs.Histories.{pass_known, shape_is, history_adds, history_sees, sound_set}
+use Rattle.seat_views.proofs.StampFacts.{under_more, under_same}
 
 -- ---- the words
 
@@ -113,7 +114,7 @@ module _ (k : Opening) (ok : IsShape k.shape) (o spot sh wd : ℕ) (there : plac
           history = h;
           lanes = lanes_adds S ok r.log s.words r.lanes x spot sh wd z there becomes;
           parts = parts_frame S k.first_stamp r.log r.locks s.words s.views r.parts r.glances (r.log ++ x ∷ []) words' same (set s.views id w) flights
-              (λ l lt. get_or-set_other s.words (data_word spot) (lock_word S l) z 0 (λ e. omega arith));
+              (λ l lt. get_or-set_other s.words (data_word spot) (lock_word S l) z 0 (λ e. omega arith)) (under_more S r.log (x ∷ []));
           glances = glances_frame S k.first_stamp r.log r.locks s.words s.views r.parts r.glances (r.log ++ x ∷ []) words' same (set s.views id w) flights;
         },
         (
@@ -148,7 +149,7 @@ module _ (k : Opening) (ok : IsShape k.shape) (o spot sh wd : ℕ) (there : plac
           locks = r.locks;
           history = h;
           lanes = r.lanes;
-          parts = parts_frame S k.first_stamp r.log r.locks s.words s.views r.parts r.glances r.log s.words (all_same S r.log s.words) (set s.views id w) flights (λ l lt. refl);
+          parts = parts_frame S k.first_stamp r.log r.locks s.words s.views r.parts r.glances r.log s.words (all_same S r.log s.words) (set s.views id w) flights (λ l lt. refl) (under_same S r.log);
           glances = glances_frame S k.first_stamp r.log r.locks s.words s.views r.parts r.glances r.log s.words (all_same S r.log s.words) (set s.views id w) flights;
         },
         (

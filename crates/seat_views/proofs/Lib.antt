@@ -23,4 +23,5 @@ pub mod PathReleases
 pub mod PathWords
 pub mod ShapePlaces
 pub mod Spots
+pub mod StampFacts
 pub mod Ties

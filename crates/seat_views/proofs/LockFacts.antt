@@ -199,3 +199,11 @@ released_up false st = (omega arith, λ _ _. refl)
 released_up true st = dite (ℕ_discrete st last_stamp)
     (λ e. let same : released true st ≡ st = ap (λ (b : Bool). if b then st else st + 2) (eq-eqb st last_stamp e) in (omega arith, λ _ lt. absurd (omega arith)))
     (λ ne. let more : released true st ≡ st + 2 = ap (λ (b : Bool). if b then st else st + 2) (ne_eqb st last_stamp ne) in (omega arith, λ same _. absurd (omega arith)))
+
+pub released_near : (wrote : Bool) (st : ℕ) → released wrote st ≤ st + 2
+released_near false st = omega arith
+released_near true st = go (st == last_stamp)
+  where
+    go : (b : Bool) → (if b then st else st + 2) ≤ st + 2
+    go true = omega arith
+    go false = omega arith

@@ -35,9 +35,10 @@ module _ (id : TableId) (key k : Opening) (now : ArenaState) (z : TableId) (t : 
   part_in_range : (i : ℕ) → i < n → data_word (f + i) < 1 + k.shape.words + k.shape.locks
   part_in_range i lt = let w = parts_within k.shape t.ok o l f n b at in let top : f + n ≤ k.shape.words = w.1 in omega arith
 
-  pub take_given : (a : Asked) → a ≡ asked_object o → m.0.flight ≡ Idle → Asks id key z slots seat m (lock_word k.shape l) (λ _. 1) (take_tells a (lock_word k.shape l) m)
+  pub take_given : (a : Asked) → a ≡ asked_object o now.first_stamp → m.0.flight ≡ Idle → Asks id key z slots seat m (lock_word k.shape l) (λ _. 1) (take_tells a (lock_word k.shape l) m)
   take_given a ask rest = subst (λ (x : Asked). Asks id key z slots seat m (lock_word k.shape l) (λ _. 1) (take_tells x (lock_word k.shape l) m)) (sym ask)
-      (asks id key k now z t slots seat m (lock_word k.shape l) (λ _. 1) (take_tells (asked_object o) (lock_word k.shape l) m) lock_in_range (take_keeps k t.ok (asked_object o) l f n b at slots seat m rest))
+      (asks id key k now z t slots seat m (lock_word k.shape l) (λ _. 1) (take_tells (asked_object o now.first_stamp) (lock_word k.shape l) m) lock_in_range
+      (take_keeps k t.ok (asked_object o now.first_stamp) l f n b at slots seat m rest t.first_is))
 
   pub held_given : (a : Asked) (i : ℕ) → a ≡ asked_part i → i < n → m.0.role ≡ role.Pass → HoldsClean o m.0.flight → Asks id key z slots seat m (data_word (f + i)) (λ x. x) (held_tells a (data_word (f + i)) m)
   held_given a i ask inside pass held = let h = clean_hold o m.0.flight held in
@@ -73,9 +74,10 @@ module _ (id : TableId) (key k : Opening) (now : ArenaState) (z : TableId) (t : 
       (asks id key k now z t slots seat m (lock_word k.shape l) (λ _. released h.wrote h.stamp) (λ _. release_tells (asked_value (kind_of k.shape o) o call (joined b (got h.read) n)) (lock_word k.shape l) m (released h.wrote h.stamp)) lock_in_range
       (release_keeps k t.ok o l f n b at call h.stamp h.read h.wrote h.now all (subst (λ (S : Shape). CallFits (kind_of S o) call) t.now_is fits) parts slots seat m pass h.is))
 
-  pub stamp_given : (a : Asked) → a ≡ asked_object o → m.0.flight ≡ Idle → Asks id key z slots seat m (lock_word k.shape l) (λ x. x) (stamp_tells a (lock_word k.shape l) m)
+  pub stamp_given : (a : Asked) → a ≡ asked_object o now.first_stamp → m.0.flight ≡ Idle → Asks id key z slots seat m (lock_word k.shape l) (λ x. x) (stamp_tells a (lock_word k.shape l) m)
   stamp_given a ask rest = subst (λ (x : Asked). Asks id key z slots seat m (lock_word k.shape l) (λ y. y) (stamp_tells x (lock_word k.shape l) m)) (sym ask)
-      (asks id key k now z t slots seat m (lock_word k.shape l) (λ x. x) (stamp_tells (asked_object o) (lock_word k.shape l) m) lock_in_range (stamp_keeps k t.ok (asked_object o) l f n b at slots seat m rest))
+      (asks id key k now z t slots seat m (lock_word k.shape l) (λ x. x) (stamp_tells (asked_object o now.first_stamp) (lock_word k.shape l) m) lock_in_range
+      (stamp_keeps k t.ok (asked_object o now.first_stamp) l f n b at slots seat m rest t.first_is))
 
   pub part_given : (a : Asked) (i : ℕ) → a ≡ asked_part i → i < n → m.0.role ≡ role.Pass → GlancesAt o m.0.flight → Asks id key z slots seat m (data_word (f + i)) (λ x. x) (read_tells kind.Part a (data_word (f + i)) m)
   part_given a i ask inside pass held = let h = any_glance o m.0.flight held in

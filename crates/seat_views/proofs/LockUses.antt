@@ -1,5 +1,5 @@
 -- What callers of the steps on two parts of 64 bits use.
-use Rattle.std.proofs.Common.{Some, ◌≡◌, ◌≢◌, ◌⊎◌, inl, inr, ⊎_elim, ℕ, zero, suc, ◌+◌, ◌<◌, ◌^◌, ◌==◌, Bool, true, false, if◌then◌else◌, List, [], ◌∷◌, refl, ap, sym, ◌∙◌, subst, arith, eq-eqb, ne_eqb}
+use Rattle.std.proofs.Common.{Some, ◌≡◌, ◌≢◌, ◌⊎◌, inl, inr, ⊎_elim, ℕ, zero, suc, ◌+◌, ◌*◌, ◌≤◌, ◌<◌, ◌^◌, ◌==◌, Bool, true, false, if◌then◌else◌, List, [], ◌∷◌, ◌++◌, refl, ap, sym, ◌∙◌, subst, arith, eq-eqb, ne_eqb}
 use Rattle.std.specs.Prelude.{MatchBool}
 use mathlib.Core.Logic.{dite}
 use native.Mathlib.Decide.{ℕ_discrete}
@@ -10,16 +10,19 @@ use Rattle.seat_views.specs.declared.view.Item.{Item}
 use Rattle.op_table.specs.declared.call.Call.TheVariants.{Load, Store}
 use Rattle.place_core.specs.declared.shape.Shape.{Shape}
 use Rattle.place_core.specs.PartValues.{part_of, joined, AreParts}
+use Rattle.place_core.specs.Shapes.{place_of}
 use Rattle.place_core.proofs.PartSums.{joined_has_its_parts}
 use Rattle.seat_views.specs.declared.view.Flight.{Flight}
 use Rattle.seat_views.specs.declared.view.Flight.TheVariants.{Idle, Hold, Glance}
-use Rattle.seat_views.specs.Places.{HasParts, parts_of}
+use Rattle.seat_views.specs.Places.{lock_in, HasParts, parts_of}
+use Rattle.seat_views.specs.Stamps.{entries_under}
 use Rattle.seat_views.specs.PartLists.{look_up, or_zero, got, HasAll}
 use Rattle.seat_views.specs.LockSteps.{last_stamp, read_more, write_more, HoldsClean, HoldsRead, MayRelease, GlancesAt, GlancesRead}
-use Rattle.seat_views.specs.States.{ArenaState, PassState, IsOf, Moved, Appends}
+use Rattle.seat_views.specs.States.{ArenaState, PassState, IsOf, Moved, Appends, Opens}
 use Rattle.seat_views.specs.LockStates.{TakesLock, ReadsHeld, PutsPart, Releases, ReadsStamp, ReadsPart}
 use Rattle.seat_views.specs.Trials.{SeesParts, IsReady, HasTwoParts, IsTaken, HasRead, HasWritten, IsGlanced, HasGlanced}
 use Rattle.seat_views.proofs.ShapePlaces.{count_is}
+use Rattle.seat_views.proofs.StampFacts.{under_none}
 
 pub record TwoParts (S : Shape) (o : ℕ) : Type 0 where
   pub has : HasParts S o
@@ -46,7 +49,20 @@ module _ (a : ArenaState) (o : ℕ) (two : HasTwoParts a.shape o) where
 
   -- ---- a lock taken
 
-  pub takes : (p q : PassState) (b : Bool) → IsReady a p → TakesLock a.shape o p b q → MatchBool b (IsTaken a o q) (IsReady a q)
+  -- a root that takes a lock at once finds the stamp that the arena was opened with
+  pub finds_first : (first : ℕ) (p q : PassState) (b : Bool) → Opens a.shape first a p → TakesLock a.shape o a.first_stamp p b q → MatchBool b (q.flight ≡ Hold o first [] false []) (q.flight ≡ Idle)
+  finds_first first p q false opens t = flight_of p q _ _ t.moved ∙ ap (λ (b : Bool). if b then Idle else Hold o t.found [] false []) (eq-eqb t.found 1 t.won_is)
+  finds_first first p q true opens t =
+      let s = t.stamp t.won_is in
+      let l : ℕ = lock_in (place_of a.shape o) in
+      let alone : s.between ≡ [] = s.alone (ap (λ (x : PassState). x.number) opens.root) (ap (λ (x : PassState). x.given) opens.root) in
+      let none : p.seen ++ s.between ≡ [] = (λ i. (let x : PassState = opens.root i in x.seen ++ alone i)) in
+      let most : t.found ≤ a.first_stamp + 2 * 0 = subst (λ (z : ℕ). t.found ≤ a.first_stamp + 2 * z) (ap (entries_under a.shape l) none ∙ under_none a.shape l) s.most in
+      let least : a.first_stamp ≤ t.found = s.least in
+      let same : t.found ≡ a.first_stamp = omega arith in
+      flight_of p q _ _ t.moved ∙ (ap (λ (b : Bool). if b then Idle else Hold o t.found [] false []) (ne_eqb t.found 1 t.won_is) ∙ ap (λ (z : ℕ). Hold o z [] false []) (same ∙ opens.first_stamp))
+
+  pub takes : (p q : PassState) (b : Bool) → IsReady a p → TakesLock a.shape o a.first_stamp p b q → MatchBool b (IsTaken a o q) (IsReady a q)
   takes p q true r t = record { of = moved_of p q _ _ r.of t.moved; stamp = t.found; flight = flight_of p q _ _ t.moved ∙ ap (λ (b : Bool). if b then Idle else Hold o t.found [] false []) (ne_eqb t.found 1 t.won_is) }
   takes p q false r t = record { of = moved_of p q _ _ r.of t.moved; rest = flight_of p q _ _ t.moved ∙ ap (λ (b : Bool). if b then Idle else Hold o t.found [] false []) (eq-eqb t.found 1 t.won_is) }
 
@@ -120,7 +136,7 @@ module _ (a : ArenaState) (o : ℕ) (two : HasTwoParts a.shape o) where
 
   -- ---- a glance
 
-  pub stamps : (p q : PassState) (n : ℕ) → IsReady a p → ReadsStamp a.shape o p n q → (b : Bool) → (b ≡ true → (n ≢ 1) × (n ≢ last_stamp)) → (b ≡ false → (n ≡ 1) ⊎ (n ≡ last_stamp)) → MatchBool b (IsGlanced a o q) (IsReady a q)
+  pub stamps : (p q : PassState) (n : ℕ) → IsReady a p → ReadsStamp a.shape o a.first_stamp p n q → (b : Bool) → (b ≡ true → (n ≢ 1) × (n ≢ last_stamp)) → (b ≡ false → (n ≡ 1) ⊎ (n ≡ last_stamp)) → MatchBool b (IsGlanced a o q) (IsReady a q)
   stamps p q n r h true yes_it not_it = let ne = yes_it refl in record {
     of = moved_of p q _ _ r.of h.moved;
     stamp = n;
@@ -163,7 +179,7 @@ known_more n m read all i lt = dite (ℕ_discrete i n)
     (λ ne. ap (λ (b : Bool). if b then Some m else look_up i read) (ne_eqb i n ne) ∙ (all i (omega arith) ∙ sym (ap (λ (b : Bool). Some (or_zero (if b then Some m else look_up i read))) (ne_eqb i n ne))))
 
 module _ (a : ArenaState) (o : ℕ) where
-  pub stamps_any : (p q : PassState) (n : ℕ) → IsReady a p → ReadsStamp a.shape o p n q → n ≢ 1 → n ≢ last_stamp → SeesParts a o 0 q
+  pub stamps_any : (p q : PassState) (n : ℕ) → IsReady a p → ReadsStamp a.shape o a.first_stamp p n q → n ≢ 1 → n ≢ last_stamp → SeesParts a o 0 q
   stamps_any p q n r h ne far = record {
     of = (let m = h.moved in (ap (λ (x : PassState). x.arena) m.now ∙ r.of.0, ap (λ (x : PassState). x.shape) m.now ∙ r.of.1));
     stamp = n;

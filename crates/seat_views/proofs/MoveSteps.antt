@@ -22,6 +22,7 @@ use Rattle.seat_views.specs.Steps.{IsSoundView}
 use Rattle.seat_views.specs.LockSteps.{IsGlance}
 use Rattle.seat_views.specs.Moves.{giver, newcomer, joining, taken_back, TakesFrom, back_tells, noting, note_view, meeting, met, HearsFrom, meet_tells, dropped}
 use Rattle.seat_views.proofs.Frames.{Flights, all_same, flights_of, flights_set, flights_same, flights_split, flights_join, parts_frame, glances_frame}
+use Rattle.seat_views.proofs.StampFacts.{under_same}
 use Rattle.seat_views.proofs.Histories.{history_same, history_gives, history_notes, history_joins, history_meets, history_learns, history_hears, sound_set}
 
 -- the rule where no word changed and no entry was made
@@ -34,7 +35,7 @@ rests k s r count owner views h f = record {
   locks = r.locks;
   history = h;
   lanes = r.lanes;
-  parts = parts_frame k.shape k.first_stamp r.log r.locks s.words s.views r.parts r.glances r.log s.words (all_same k.shape r.log s.words) views f (λ l lt. refl);
+  parts = parts_frame k.shape k.first_stamp r.log r.locks s.words s.views r.parts r.glances r.log s.words (all_same k.shape r.log s.words) views f (λ l lt. refl) (under_same k.shape r.log);
   glances = glances_frame k.shape k.first_stamp r.log r.locks s.words s.views r.parts r.glances r.log s.words (all_same k.shape r.log s.words) views f;
 }
 

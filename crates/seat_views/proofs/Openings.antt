@@ -25,6 +25,7 @@ use Rattle.place_core.proofs.ShapeWords.{strip, strip_at, strip_back, laid}
 use Rattle.seat_views.specs.declared.view.Opening.{Opening}
 use Rattle.seat_views.specs.declared.view.View.{View}
 use Rattle.seat_views.specs.Places.{value_after}
+use Rattle.seat_views.specs.Stamps.{entries_under}
 use Rattle.seat_views.specs.Rule.{first_view, caller_of, Lock, KnowsHold, KnowsGlance, ArenaHolds}
 use Rattle.seat_views.specs.Starts.{Begins, start_below, StartsSoFar, Puts}
 use Rattle.seat_views.specs.Steps.{IsSoundView}
@@ -34,6 +35,9 @@ use Rattle.seat_views.proofs.Histories.{history_opens}
 -- a lock that no one has held
 abbrev pub free_lock : ℕ → Lock
 free_lock stamp = record { holder = None; stamp = stamp; dirty = false; object = 0 }
+
+not_above : (first n : ℕ) → first ≤ first + 2 * n
+not_above first n = omega arith
 
 pub opens : (k : Opening) (words : List ℕ) → k.first_stamp % 2 ≡ 0 → Begins k words → ArenaHolds k (opening words [] (first_view k))
 opens k words even begins = record {
@@ -47,6 +51,7 @@ opens k words even begins = record {
     locked = begins.locks;
     even = λ l lt. even;
     from_first = λ l lt. omega arith;
+    upto_first = λ l lt. not_above k.first_stamp (entries_under k.shape l []);
     clean = λ l e. refl;
     holders = λ l j e. absurd (cc (e));
     small = λ o l f n b i at lt. subst (λ (z : ℕ). z < 2 ^ b) (sym (begins.parts o l f n b i at lt)) (part_fits b i (start_of k.shape o));

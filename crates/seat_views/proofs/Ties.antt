@@ -26,6 +26,7 @@ use Rattle.seat_views.proofs.LaneSteps.{OnLane, TellsReply, stored, op_keeps, lo
 pub record Tied (id : TableId) (key k : Opening) (now : ArenaState) (z : TableId) : Type 0 where
   pub key_is : key ≡ k
   pub now_is : now.shape ≡ k.shape
+  pub first_is : now.first_stamp ≡ k.first_stamp
   pub words : id.words ≡ 1 + k.shape.words + k.shape.locks
   pub ok : IsShape k.shape
   pub mine : z ≡ id
@@ -35,6 +36,7 @@ pub tie : (id : TableId) (key k : Opening) (now : ArenaState) (z : TableId) → 
 tie id key k now z view key_is words ok mine = record {
   key_is = key_is;
   now_is = sym (ap (λ (r : ArenaState). r.shape) view);
+  first_is = sym (ap (λ (r : ArenaState). r.first_stamp) view);
   words = words;
   ok = ok;
   mine = mine ∙ sym (ap (λ (r : ArenaState). r.id) view);

@@ -1,5 +1,6 @@
 pub mod Places
 pub mod PartLists
+pub mod Stamps
 pub mod Rule
 pub mod Deciding
 pub mod Steps

@@ -7,17 +7,19 @@ use Rattle.op_table.specs.declared.call.Reply.TheVariants.{Value}
 use Rattle.op_table.specs.Kind.{values_of}
 use Rattle.op_table.specs.Call.{after_of, answer_of}
 use Rattle.place_core.specs.declared.shape.Shape.{Shape}
-use Rattle.place_core.specs.Shapes.{kind_of}
+use Rattle.place_core.specs.Shapes.{place_of, kind_of}
 use Rattle.place_core.specs.PartValues.{joined, AreParts}
 use Rattle.seat_views.specs.declared.hand.Hand.{Hand}
 use Rattle.seat_views.specs.declared.view.StepKind.{StepKind}
 use Rattle.seat_views.specs.declared.view.StepKind.TheVariants as kind
+use Rattle.seat_views.specs.declared.view.Role.TheVariants as role
 use Rattle.seat_views.specs.declared.view.Flight.{Flight}
 use Rattle.seat_views.specs.declared.view.Flight.TheVariants.{Idle, Hold, Glance}
 use Rattle.seat_views.specs.declared.view.View.{View}
-use Rattle.seat_views.specs.Places.{parts_of}
+use Rattle.seat_views.specs.Places.{lock_in, parts_of}
+use Rattle.seat_views.specs.Stamps.{IsStampIn}
 use Rattle.seat_views.specs.PartLists.{look_up, got, HasAll}
-use Rattle.seat_views.specs.Steps.{Asked, entry, item, moved, Grows}
+use Rattle.seat_views.specs.Steps.{Asked, entry, item, moved, Grows, GrowsFrom}
 
 -- the greatest even number of 64 bits. A lock that has come to it keeps it
 abbrev pub last_stamp : ℕ
@@ -124,9 +126,13 @@ IsGlance (Glance p stamp read) = Unit {0}
 abbrev pub Told : Type 1
 Told = Step (Unit {0}) → Me (Unit {0}) View → ℕ → Me (Unit {0}) View → Type 0
 
+-- a number other than 1 that is found in a pass's step is a stamp of the object's lock; the first is the one asked with
+abbrev pub StampTold : Asked → View → ℕ → Type 0
+StampTold a v n = n ≢ 1 → v.role ≡ role.Pass → IsStampIn v.shape (lock_in (place_of v.shape a.object)) a.stamp v.number v.given v.seen n
+
 -- a number other than 1 that a take finds is even
 abbrev pub take_tells : Asked → ℕ → Me (Unit {0}) View → ℕ → Me (Unit {0}) View → Type 0
-take_tells a word m n w = (w.1 ≡ m.1) × (w.0 ≡ moved m.0 (item word kind.Take n) (taken_flight a.object n)) × (n ≢ 1 → n % 2 ≡ 0)
+take_tells a word m n w = (w.1 ≡ m.1) × (w.0 ≡ moved m.0 (item word kind.Take n) (taken_flight a.object n)) × (n ≢ 1 → n % 2 ≡ 0) × StampTold a m.0 n
 
 -- a part is a number of a part's bits
 abbrev pub read_tells : StepKind → Asked → ℕ → Me (Unit {0}) View → ℕ → Me (Unit {0}) View → Type 0
@@ -140,12 +146,13 @@ held_tells a word m n w = (w.1 ≡ m.1) × (w.0 ≡ moved m.0 (item word kind.He
 abbrev pub put_tells : Asked → ℕ → Me (Unit {0}) View → ℕ → Me (Unit {0}) View → Type 0
 put_tells a word m n w = (w.1 ≡ m.1) × (w.0 ≡ moved m.0 (item word kind.Put n) (write_more m.0.flight a.part n))
 
--- the value that was read is one of the kind
+-- the value that was read is the object's before the entry, and one of the kind
 abbrev pub release_tells : Asked → ℕ → Me (Unit {0}) View → ℕ → Me (Unit {0}) View → Type 0
-release_tells a word m n w = (w.1 ≡ m.1) × Grows m.0 (entry m.0.number a.object a.call (answer_of a.kind a.call a.value)) (item word kind.Release n) w.0 × (a.value < values_of a.kind)
+release_tells a word m n w = (w.1 ≡ m.1) × GrowsFrom m.0 (entry m.0.number a.object a.call (answer_of a.kind a.call a.value)) (item word kind.Release n) a.value w.0
+    × (a.value < values_of a.kind)
 
 abbrev pub stamp_tells : Asked → ℕ → Me (Unit {0}) View → ℕ → Me (Unit {0}) View → Type 0
-stamp_tells a word m n w = (w.1 ≡ m.1) × (w.0 ≡ moved m.0 (item word kind.Stamp n) (stamped_flight a.object n))
+stamp_tells a word m n w = (w.1 ≡ m.1) × (w.0 ≡ moved m.0 (item word kind.Stamp n) (stamped_flight a.object n)) × StampTold a m.0 n
 
 abbrev pub match_tells : Asked → ℕ → Me (Unit {0}) View → ℕ → Me (Unit {0}) View → Type 0
 match_tells a word m n w = (w.1 ≡ m.1) × (n ≡ a.stamp → Grows m.0 (entry m.0.number a.object Load (Value a.value)) (item word kind.Match n) w.0)

@@ -1,5 +1,5 @@
 -- The rule of an arena, in four named parts. It holds between any two steps.
-use Rattle.std.specs.Prelude.{◌≡◌, ◌≢◌, ℕ, ◌+◌, ◌%◌, ◌<◌, ◌≤◌, ◌^◌, Bool, true, false, List, [], length, Option, Some, None, slice_index}
+use Rattle.std.specs.Prelude.{◌≡◌, ◌≢◌, ℕ, ◌+◌, ◌*◌, ◌%◌, ◌<◌, ◌≤◌, ◌^◌, Bool, true, false, List, [], length, Option, Some, None, slice_index}
 use mathlib.Core.Option.{some}
 use lib.ListN.{get_elem?}
 use Rattle.atomic_table.specs.Table.{State}
@@ -20,6 +20,7 @@ use Rattle.seat_views.specs.declared.view.Ended.{Ended}
 use Rattle.seat_views.specs.declared.view.View.{View}
 use Rattle.seat_views.specs.Places.{value_after, IsLegalIn}
 use Rattle.seat_views.specs.PartLists.{look_up, got, HasAll}
+use Rattle.seat_views.specs.Stamps.{entries_under}
 
 -- the root's view at the start
 abbrev pub first_view : Opening → View
@@ -152,12 +153,13 @@ pub record IsHolder (S : Shape) (l : ℕ) (views : List View) (j : ℕ) : Type 0
   pub there : get_elem? views j ≡ some view
   pub under : HoldsUnder S l view.flight
 
--- a lock's word is 1 exactly where a view holds it, and else an even stamp, not below the first; a part is a number of its
--- bits; parts that no holder has written hold the value
+-- a lock's word is 1 exactly where a view holds it, and else an even stamp, not below the first, and above it at most by
+-- two for each entry on the lock's objects; a part is a number of its bits; parts that no holder has written hold the value
 pub record Parts (S : Shape) (first_stamp : ℕ) (log : List Entry) (locks : ℕ → Lock) (words : List ℕ) (views : List View) : Type 0 where
   pub locked : (l : ℕ) → l < S.locks → slice_index words (lock_word S l) ≡ shown (locks l)
   pub even : (l : ℕ) → l < S.locks → (locks l).stamp % 2 ≡ 0
   pub from_first : (l : ℕ) → l < S.locks → first_stamp ≤ (locks l).stamp
+  pub upto_first : (l : ℕ) → l < S.locks → (locks l).stamp ≤ first_stamp + 2 * entries_under S l log
   pub clean : (l : ℕ) → (locks l).holder ≡ None → (locks l).dirty ≡ false
   pub holders : (l j : ℕ) → (locks l).holder ≡ Some j → IsHolder S l views j
   pub small : (o l f n b i : ℕ) → place_of S o ≡ Some (In l f n b) → i < n → part_in words f i < 2 ^ b

@@ -16,7 +16,7 @@ use Rattle.seat_views.specs.declared.view.Flight.TheVariants.{Idle}
 use Rattle.seat_views.specs.declared.view.StepKind.{StepKind}
 use Rattle.seat_views.specs.declared.view.StepKind.TheVariants as kind
 use Rattle.seat_views.specs.Deciding.{look_settles, lost_try_settles}
-use Rattle.seat_views.specs.Steps.{Asked, asked, entry, item, moved, Grows, GrowsAt, Sees, MakesAt}
+use Rattle.seat_views.specs.Steps.{Asked, asked, entry, item, moved, Grows, GrowsAt, GrowsFrom, Sees, MakesAt}
 use Rattle.seat_views.specs.LockSteps.{taken_flight, stamped_flight, read_more, write_more}
 
 -- ---- a lane
@@ -89,7 +89,7 @@ abbrev pub PutsThere : Cell → ℕ → View → ℕ → View → Type 0
 PutsThere cell i v n w = w ≡ moved v (item (part_word cell i) kind.Put n) (write_more v.flight i n)
 
 abbrev pub ReleasesThere : Shape → ℕ → Cell → Call → ℕ → View → ℕ → View → Type 0
-ReleasesThere S o cell call value v n w = Grows v (entry v.number o call (answer_of cell.kind call value)) (item (lock_word S cell.lock) kind.Release n) w
+ReleasesThere S o cell call value v n w = GrowsFrom v (entry v.number o call (answer_of cell.kind call value)) (item (lock_word S cell.lock) kind.Release n) value w
 
 abbrev pub StampsThere : Shape → ℕ → Cell → View → ℕ → View → Type 0
 StampsThere S o cell v n w = w ≡ moved v (item (lock_word S cell.lock) kind.Stamp n) (stamped_flight o n)

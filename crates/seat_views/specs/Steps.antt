@@ -22,13 +22,13 @@ use Rattle.seat_views.specs.declared.view.Flight.TheVariants.{Idle}
 use Rattle.seat_views.specs.declared.view.Role.TheVariants as role
 use Rattle.seat_views.specs.declared.view.Beside.TheVariants as beside
 use Rattle.seat_views.specs.declared.view.View.{View}
-use Rattle.seat_views.specs.Places.{IsLegalIn}
+use Rattle.seat_views.specs.Places.{value_after, IsLegalIn}
 use Rattle.seat_views.specs.Deciding.{look_settles, lost_try_settles}
 use Rattle.seat_views.specs.Rule.{caller_of, number_of_ended, entries_of_ended}
 
 -- ---- what a step is asked for
 
--- the object and the call; the part; the value that was read; the stamp; of a lane its kind, its lowest bit, how many bits
+-- the object and the call; the part; the value that was read; the stamp of the glance, or the first of the locks; of a lane its kind, its lowest bit, how many bits
 -- it has, and the step that serves the call
 pub record Asked : Type 0 where
   pub object : ℕ
@@ -48,9 +48,9 @@ no_ask = record { object = 0; call = Load; part = 0; value = 0; stamp = 0; kind 
 abbrev pub asked : Kind → ℕ → ℕ → ℕ → Call → WordOp → Asked
 asked k s d o call done = record { object = o; call = call; part = 0; value = 0; stamp = 0; kind = k; shift = s; width = d; done = done }
 
--- an object
-abbrev pub asked_object : ℕ → Asked
-asked_object o = record no_ask { object = o }
+-- an object, and the first stamp of the locks
+abbrev pub asked_object : ℕ → ℕ → Asked
+asked_object o first = record no_ask { object = o; stamp = first }
 
 -- a part
 abbrev pub asked_part : ℕ → Asked
@@ -132,6 +132,13 @@ pub record GrowsAt (v : View) (x : Entry) (i : Item) (word n : ℕ) (w : View) :
   pub between : List Entry
   pub now : w ≡ grown v (v.seen ++ between) x i
   pub word_is : word_of v.shape (v.seen ++ between) word ≡ n
+  pub sound : IsSoundView w
+
+-- and n was the value of the entry's object before it
+pub record GrowsFrom (v : View) (x : Entry) (i : Item) (n : ℕ) (w : View) : Type 0 where
+  pub between : List Entry
+  pub now : w ≡ grown v (v.seen ++ between) x i
+  pub value_is : value_after v.shape (v.seen ++ between) x.object ≡ n
   pub sound : IsSoundView w
 
 -- the step made no entry, and has seen all: there the data word is n

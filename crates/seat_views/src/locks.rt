@@ -10,7 +10,7 @@ ghost use Rattle.seat_views.specs.declared.view.StepKind.TheVariants as kind;
 ghost use Rattle.seat_views.specs.declared.view.Flight.TheVariants.{Idle};
 ghost use Rattle.seat_views.specs.Places.{HasParts};
 ghost use Rattle.seat_views.specs.Steps.{asked_object, asked_part, asked_value, asked_match};
-ghost use Rattle.seat_views.specs.LockSteps.{object_in, stored_by, stamp_in, value_read};
+ghost use Rattle.seat_views.specs.LockSteps.{object_in, stored_by, stamp_in, value_read, StampTold};
 ghost use Rattle.seat_views.specs.LockSteps.{HoldsClean, HoldsRead, MayRelease, GlancesAt, GlancesRead};
 ghost use Rattle.seat_views.specs.Spots.{IsCell, TakesThere, ReadsThere, PutsThere};
 ghost use Rattle.seat_views.specs.Spots.{ReleasesThere, StampsThere, MatchesThere, MissesThere};
@@ -84,13 +84,14 @@ pub(crate) fn take_as<J: Asking>(
     object: u32,
     cell: Cell,
 ) -> u64
-    requires asked { J.ask ≡ asked_object object }
+    requires asked { J.ask ≡ asked_object object arena.now.first_stamp }
     requires arena { seat.old.table_id ≡ arena.now.id }
     requires object { IsCell arena.now.shape object cell }
     requires rest { seat.old.me.0.flight ≡ Idle }
     ensures same { (seat.new.table_id ≡ seat.old.table_id) × (seat.new.me.1 ≡ seat.old.me.1) }
     ensures took { TakesThere arena.now.shape object cell seat.old.me.0 result seat.new.me.0 }
     ensures even { result ≢ 1 → result % 2 ≡ 0 }
+    ensures found { StampTold J.ask seat.old.me.0 result }
 {
     let word = 1 + arena.opening.shape.words as usize + cell.lock as usize;
     arena.table.shared.swap::<Take<J>>(seat, word, 1)
@@ -175,12 +176,13 @@ pub(crate) fn stamp_as<J: Asking>(
     object: u32,
     cell: Cell,
 ) -> u64
-    requires asked { J.ask ≡ asked_object object }
+    requires asked { J.ask ≡ asked_object object arena.now.first_stamp }
     requires arena { seat.old.table_id ≡ arena.now.id }
     requires object { IsCell arena.now.shape object cell }
     requires rest { seat.old.me.0.flight ≡ Idle }
     ensures same { (seat.new.table_id ≡ seat.old.table_id) × (seat.new.me.1 ≡ seat.old.me.1) }
     ensures stamp { StampsThere arena.now.shape object cell seat.old.me.0 result seat.new.me.0 }
+    ensures found { StampTold J.ask seat.old.me.0 result }
 {
     let word = 1 + arena.opening.shape.words as usize + cell.lock as usize;
     arena.table.shared.load::<Stamp<J>>(seat, word)

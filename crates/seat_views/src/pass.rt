@@ -216,7 +216,7 @@ impl Pass {
         requires arena { IsOf arena.now self.old }
         requires object { HasParts arena.now.shape object }
         requires rest { self.old.flight ≡ Idle }
-        ensures { TakesLock arena.now.shape object self.old result self.new }
+        ensures { TakesLock arena.now.shape object arena.now.first_stamp self.old result self.new }
     {
         let cell = parts_cell(arena, object);
         let found = take_as::<Brand>(arena, &mut self.seat, object, cell);
@@ -250,9 +250,9 @@ impl Pass {
         self.hand.wrote = true;
     }
 
-    /// Gives the lock up, which makes the call: the parts now hold what it leaves of the value that was read. The lock
-    /// gets its old stamp where nothing was written, and else two more, or the last stamp again. A weak exchange is
-    /// made as a strong one.
+    /// Gives the lock up, which makes the call: the parts now hold what it leaves of the value that was read. That is
+    /// the object's value in the history where the call's entry comes. The lock gets its old stamp where nothing was
+    /// written, and else two more, or the last stamp again. A weak exchange is made as a strong one.
     pub fn step_release(&mut self, arena: &Arena, object: u32, call: &Call) -> Reply
         requires arena { IsOf arena.now self.old }
         requires object { HasParts arena.now.shape object }
@@ -273,7 +273,7 @@ impl Pass {
         requires arena { IsOf arena.now self.old }
         requires object { HasParts arena.now.shape object }
         requires rest { self.old.flight ≡ Idle }
-        ensures { ReadsStamp arena.now.shape object self.old result self.new }
+        ensures { ReadsStamp arena.now.shape object arena.now.first_stamp self.old result self.new }
     {
         let cell = parts_cell(arena, object);
         let found = stamp_as::<Brand>(arena, &mut self.seat, object, cell);

@@ -4,8 +4,8 @@ ghost use Rattle.seat_views.specs.Trials.{IsReady, IsReadyRoot};
 
 use crate::trials::{
     add_at_once, attempt, begin, end, end_both, give, give_many, glance, glance_at, hear_at_once,
-    load_wide, look, one, open_bytes, open_counter, open_quarters, open_wide, read_both,
-    release_loaded, see_both, store_wide, take,
+    load_wide, look, one, open_bytes, open_counter, open_held, open_quarters, open_wide, read_both,
+    release_loaded, see_both, store_wide, take, wide_shape,
 };
 use op_table::{Call, Reply};
 use std::test::*;
@@ -71,6 +71,15 @@ fn call_that_changes_nothing_loses_no_try(rt: HostRuntime) -> Result<(), Fail> {
     assert!(rt; look(&arena, &mut q, 1, WEAK) == Some(Err(0x07FA)));
     assert!(rt; one(&arena, &mut p, 0, Call::Or(2, false)) == Some(Reply::Value(250)));
     assert!(rt; attempt(&arena, &mut q, 1, WEAK, 0x07FA) == Some(Ok(Reply::Done(7))));
+    Ok(())
+}
+
+#[test]
+fn root_takes_a_lock_at_once(rt: HostRuntime) -> Result<(), Fail> {
+    let (_arena, _root, won) = open_held(rt.alloc(), wide_shape(rt.alloc(), 5)?, 6).ok_or(
+        "it opens",
+    )?;
+    assert!(rt; won);
     Ok(())
 }
 

@@ -1,11 +1,12 @@
 //! Helpers of the tests: arenas, and whole calls of a few steps.
 
-ghost use Rattle.std.specs.Prelude.{◌≡◌, length, IfOk, IfSome, MatchBool, ⊤};
+ghost use Rattle.std.specs.Prelude.{◌≡◌, [], false, length, IfOk, IfSome, MatchBool, ⊤};
 ghost use Rattle.op_table.specs.declared.call.Call.TheVariants.{Store};
 ghost use Rattle.op_table.specs.Call.{CallFits};
 ghost use Rattle.place_core.specs.Shapes.{kind_of};
 ghost use Rattle.seat_views.specs.Trials.{IsReady, IsReadyRoot, EndsBoth, HasTwoParts};
 ghost use Rattle.seat_views.specs.Places.{parts_of};
+ghost use Rattle.seat_views.specs.declared.view.Flight.TheVariants.{Idle, Hold};
 ghost use Rattle.seat_views.specs.States.{IsNoteOf};
 ghost use Rattle.seat_views.specs.Trials.{IsTaken, HasRead, HasWritten, IsGlanced, HasGlanced, SeesParts};
 
@@ -204,14 +205,8 @@ fn has_two_parts(arena: &Arena, object: u32) -> bool
     }
 }
 
-/// An arena of one u128, opened at a stamp.
-pub(crate) fn open_wide(
-    alloc: Global,
-    start: u128,
-    stamp: u64,
-) -> Result<Option<(Arena, Root)>, AllocError>
-    ensures { IfOk result (λ r. IfSome r (λ t. IsReadyRoot t.0 t.1 × HasTwoParts t.0.shape 0)) }
-{
+/// A shape of one u128.
+pub(crate) fn wide_shape(alloc: Global, start: u128) -> Result<Shape, AllocError> {
     let mut objects = Vec::new(alloc);
     objects.push(Object {
         kind: unsigned(Width::W128),
@@ -223,10 +218,38 @@ pub(crate) fn open_wide(
         },
         start,
     })?;
-    match open(alloc, shape_of(2, objects), stamp) {
+    Ok(shape_of(2, objects))
+}
+
+/// An arena of one u128, opened at a stamp.
+pub(crate) fn open_wide(
+    alloc: Global,
+    start: u128,
+    stamp: u64,
+) -> Result<Option<(Arena, Root)>, AllocError>
+    ensures { IfOk result (λ r. IfSome r (λ t. IsReadyRoot t.0 t.1 × HasTwoParts t.0.shape 0)) }
+{
+    match open(alloc, wide_shape(alloc, start)?, stamp) {
         Some((arena, root)) if has_two_parts(&arena, 0) => Ok(Some((arena, root))),
         _ => Ok(None),
     }
+}
+
+#[tactic(auto, using(crate::proofs::LockUses::two_parts, crate::proofs::LockUses::finds_first))]
+/// Opens an arena of a u128 in two parts, and takes its lock at once: what is found there is the stamp that the arena
+/// was opened with.
+pub(crate) fn open_held(alloc: Global, shape: Shape, stamp: u64) -> Option<(Arena, Root, bool)>
+    ensures { IfSome result (λ r. MatchBool r.2 (r.1.flight ≡ Hold 0 stamp [] false []) (r.1.flight ≡ Idle)) }
+{
+    if !shape_ok(&shape) || stamp % 2 != 0 {
+        return None;
+    }
+    let (arena, mut root) = Arena::open(alloc, shape, stamp).ok()?;
+    if !has_two_parts(&arena, 0) {
+        return None;
+    }
+    let won = root.as_pass().step_take(&arena, 0);
+    Some((arena, root, won))
 }
 
 #[tactic(auto, using(crate::proofs::LockUses::two_parts, crate::proofs::LockUses::takes))]

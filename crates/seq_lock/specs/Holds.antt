@@ -12,10 +12,11 @@ use Rattle.seat_views.specs.declared.view.Item.{Item}
 use Rattle.seat_views.specs.declared.view.Flight.{Flight}
 use Rattle.seat_views.specs.declared.view.Flight.TheVariants.{Idle, Hold, Glance}
 use Rattle.seat_views.specs.declared.view.StepKind.TheVariants as step
-use Rattle.seat_views.specs.Places.{first_in, parts_of, word_of_lock}
+use Rattle.seat_views.specs.Places.{value_after, first_in, parts_of, word_of_lock}
 use Rattle.seat_views.specs.PartLists.{got, HasAll}
 use Rattle.seat_views.specs.Paths.{eat_run, eat_takes, eat_locked}
 use Rattle.seat_views.specs.States.{PassState, IsKept}
+use Rattle.seat_views.specs.LockStates.{IsStampOf}
 use Rattle.seat_views.specs.Makes.{MakesEntry}
 
 -- the pass made these steps and no entry, and then f is in flight; where f is nothing they are the steps of no call, as
@@ -51,12 +52,14 @@ pub record Trying (S : Shape) (o : ℕ) (p q : PassState) : Type 0 where
   pub goes_on : (U : List Item) → eat_takes (word_of_lock S o) (steps ++ U) ≡ eat_takes (word_of_lock S o) U
   pub state : Steps p steps Idle q
 
--- takes that found the lock held, and one that found another number, the stamp: the lock is held
-pub record Took (S : Shape) (o : ℕ) (p q : PassState) : Type 0 where
+-- takes that found the lock held, and one that found another number, the lock's stamp: the lock is held. Each lock began
+-- with the first stamp
+pub record Took (S : Shape) (o first : ℕ) (p q : PassState) : Type 0 where
   pub steps : List Item
   pub stamp : ℕ
   pub eaten : eat_takes (word_of_lock S o) steps ≡ Some (stamp, [])
   pub even : stamp % 2 ≡ 0
+  pub found : IsStampOf S o first p stamp
   pub state : Steps p steps (Hold o stamp [] false []) q
   pub kept : IsKept q
 
@@ -108,11 +111,12 @@ pub record PutsAll (S : Shape) (o : ℕ) (p : PassState) (v : ℕ) (q : PassStat
   pub kept : IsKept q
 
 -- a call was made under the lock: the takes, every part read, every part stored where the call writes, and the release.
--- The reply is the table's, of a value of the object's kind
+-- The reply is the table's, of the object's value where the entry comes, which is one of its kind
 pub record MakesLocked (S : Shape) (o : ℕ) (call : Call) (p : PassState) (r : Reply) (q : PassState) : Type 0 where
   pub steps : List Item
   pub made : MakesEntry o call p r steps q
   pub eaten : eat_locked (word_of_lock S o) (first_word S o) (parts_of S o) (does_write call r) steps ≡ Some []
   pub value : ℕ
+  pub value_is : value_after S (p.seen ++ made.between) o ≡ value
   pub fits : value < values_of (kind_of S o)
   pub reply : r ≡ answer_of (kind_of S o) call value

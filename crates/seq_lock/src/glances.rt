@@ -34,8 +34,8 @@ pub fn glance_begin(arena: &Arena, pass: &mut Pass, object: u32) -> Result<u64, 
     requires arena { IsOf arena.now pass.old }
     requires object { HasParts arena.now.shape object }
     requires rest { pass.old.flight ≡ Idle }
-    ensures begun { IfOk result (λ n. Begins arena.now.shape object pass.old n pass.new) }
-    ensures missed { IfErr result (λ m. BeginsNot arena.now.shape object pass.old m pass.new) }
+    ensures begun { IfOk result (λ n. Begins arena.now.shape object arena.now.first_stamp pass.old n pass.new) }
+    ensures missed { IfErr result (λ m. BeginsNot arena.now.shape object arena.now.first_stamp pass.old m pass.new) }
 {
     let stamp = pass.step_stamp(arena, object);
     if stamp == 1 {

@@ -24,7 +24,7 @@ pub fn take<R: Wait>(rt: &R, arena: &Arena, pass: &mut Pass, object: u32)
     requires arena { IsOf arena.now pass.old }
     requires object { HasParts arena.now.shape object }
     requires rest { pass.old.flight ≡ Idle }
-    ensures { Took arena.now.shape object pass.old pass.new }
+    ensures { Took arena.now.shape object arena.now.first_stamp pass.old pass.new }
 {
     let pause = Backoff::new();
     for _ in rt.forever() {
@@ -37,6 +37,7 @@ pub fn take<R: Wait>(rt: &R, arena: &Arena, pass: &mut Pass, object: u32)
 }
 
 /// Reads every part of the object whose lock is held, from part 0 up, and answers the value. Nothing was written yet.
+/// The value is the object's in the history where the entry of the release comes.
 pub fn held_value(arena: &Arena, pass: &mut Pass, object: u32) -> u128
     requires arena { IsOf arena.now pass.old }
     requires object { HasParts arena.now.shape object }

@@ -65,8 +65,8 @@ module _ (S : Shape) (o : ℕ) (has : HasParts S o) where
 
   -- ---- a glance that didn't begin
 
-  alone_missed : (m : Missed) (f : ℕ) (p q : PassState) → ((f == 1) || (f == last_stamp)) ≡ true → stamped_flight o f ≡ Idle → MissedBy S o m (item (word_of_lock S o) step.Stamp f ∷ []) → ReadsStamp S o p f q → GlanceMisses S o p m q
-  alone_missed m f p q none idle why h = let k = h.moved in record {
+  alone_missed : (m : Missed) (first f : ℕ) (p q : PassState) → ((f == 1) || (f == last_stamp)) ≡ true → stamped_flight o f ≡ Idle → MissedBy S o m (item (word_of_lock S o) step.Stamp f ∷ []) → ReadsStamp S o first p f q → GlanceMisses S o p m q
+  alone_missed m first f p q none idle why h = let k = h.moved in record {
     steps = item (word_of_lock S o) step.Stamp f ∷ [];
     why = why;
     glance = alone_glance f none;
@@ -74,15 +74,15 @@ module _ (S : Shape) (o : ℕ) (has : HasParts S o) where
     kept = k.kept;
   }
 
-  pub not_begun : (m : Missed) (p q : PassState) → BeginsNot S o p m q → GlanceMisses S o p m q
-  not_begun Held p q h = alone_missed Held 1 p q refl refl refl h
-  not_begun (Moved first second) p q h = absurd h
-  not_begun Last p q h = alone_missed Last last_stamp p q refl refl refl h
+  pub not_begun : (m : Missed) (first : ℕ) (p q : PassState) → BeginsNot S o first p m q → GlanceMisses S o p m q
+  not_begun Held first p q h = alone_missed Held first 1 p q refl refl refl h
+  not_begun (Moved one two) first p q h = absurd h
+  not_begun Last first p q h = alone_missed Last first last_stamp p q refl refl refl h
 
   -- ---- a glance that began
 
-  pub looking_none : (p q : PassState) (n : ℕ) → Begins S o p n q → Looking S o p 0 q
-  looking_none p q n b = let h = b.stamp in let k = h.moved in record {
+  pub looking_none : (first : ℕ) (p q : PassState) (n : ℕ) → Begins S o first p n q → Looking S o p 0 q
+  looking_none first p q n b = let h = b.stamp in let k = h.moved in record {
     stamp = n;
     free = b.free;
     going = b.going;

@@ -21,4 +21,4 @@ returns c =
     let fits = subst (λ (S : Shape). HandFits S.word_bits c.self.inside.seat.me.0.flight c.self.inside.hand) shaped c.self.invariant.5 in
     let value = release_value c.args.arena.now.shape _ _ _ _ _ cell.place cell.bits.0 _ c.self.inside.hand _ c.join-value.ensures.value c.args.call.now may fits in
     let stamp = c.stamp_after-stamp.ensures ∙ (ends_hold c.args.arena.now.shape c.args.object c.args.call.now c.self.inside.seat.me.0.flight c.self.inside.hand may fits).stored in
-    released_at c.args.arena.now.shape c.args.object _ _ _ _ cell.place _ _ _ _ _ c.self.view_is c.release_as.ensures.same.0 _ _ _ _ _ cell.kind.0 value stamp c.answer.ensures.value c.release_as.ensures.grows
+    released_at c.args.arena.now.shape c.args.object _ _ _ _ cell.place _ _ _ _ _ c.self.view_is c.release_as.ensures.same.0 _ _ _ _ _ shaped cell.kind.0 value stamp c.answer.ensures.value c.release_as.ensures.grows
