@@ -1,13 +1,13 @@
 -- The reply to a call has the form of its answers.
-use Rattle.std.proofs.Common.{◌≡◌, ℕ, ◌+◌, ◌<◌, ◌==◌, Bool, true, false, if◌then◌else◌, List, [], ◌∷◌, ◌++◌, length, refl, ap, sym, ◌∙◌, subst, Option, Some, inl, inr}
+use Rattle.std.proofs.Common.{◌≡◌, ℕ, ◌<◌, ◌==◌, Bool, true, false, if◌then◌else◌, List, [], ◌∷◌, ◌++◌, length, ap, sym, ◌∙◌, subst, Option, Some, inl, inr}
 use Rattle.std.specs.Prelude.{IsSomeAnd}
 use Rattle.op_table.specs.declared.kind.Kind.{Kind}
 use Rattle.op_table.specs.declared.call.Call.{Call}
-use Rattle.op_table.specs.declared.call.Call.TheVariants.{Load, Store, Swap, Cas, CasWeak, Add, Sub, And, Nand, Or, Xor, Max, Min, Not, Neg, BitSet, BitClear, BitToggle}
+use Rattle.op_table.specs.declared.call.Call.TheVariants.{Store, Cas, CasWeak, Add, Sub, And, Or, Xor, Not, Neg, BitSet, BitClear, BitToggle}
 use Rattle.op_table.specs.declared.call.Reply.{Reply}
 use Rattle.op_table.specs.declared.call.Reply.TheVariants as reply
 use Rattle.op_table.specs.Kind.{values_of}
-use Rattle.op_table.specs.Call.{answer_of, unless_quiet, exchange_reply, Permits, IsSpurious, CallFits}
+use Rattle.op_table.specs.Call.{answer_of, unless_quiet, Permits, IsSpurious, CallFits}
 use Rattle.place_core.specs.declared.entry.Entry.{Entry}
 use Rattle.place_core.specs.declared.shape.Shape.{Shape}
 use Rattle.place_core.specs.Cells.{Cell, left_by, value_of, IsLawful, IsLegal}
@@ -19,12 +19,12 @@ use Rattle.place_core.proofs.ShapeTests.{object_at}
 use Rattle.seat_views.specs.Steps.{entry}
 use Rattle.seat_views.specs.States.{PassState}
 use Rattle.seat_views.specs.Makes.{MakesCall}
-use Rattle.atomic_types.specs.Atomics.{HasForm, form_of}
+use Rattle.atomic_types.specs.Atomics.{HasForm, form_unless_quiet, form_of}
 use Rattle.atomic_types.specs.Atomics as form
 
 -- ---- by the table
 
-quiet_form : (kind : Kind) (v : ℕ) → v < values_of kind → (q : Bool) → HasForm (form.unless_quiet q) kind (unless_quiet q v)
+quiet_form : (kind : Kind) (v : ℕ) → v < values_of kind → (q : Bool) → HasForm (form_unless_quiet q) kind (unless_quiet q v)
 quiet_form kind v small true = tt
 quiet_form kind v small false = small
 
@@ -33,24 +33,20 @@ exchange_form kind v small true = small
 exchange_form kind v small false = small
 
 answer_form : (kind : Kind) (call : Call) (v : ℕ) → v < values_of kind → HasForm (form_of call) kind (answer_of kind call v)
-answer_form kind Load v small = small
 answer_form kind (Store a) v small = tt
-answer_form kind (Swap a) v small = small
 answer_form kind (Cas e n) v small = exchange_form kind v small (v == e)
 answer_form kind (CasWeak e n) v small = exchange_form kind v small (v == e)
 answer_form kind (Add a q) v small = quiet_form kind v small q
 answer_form kind (Sub a q) v small = quiet_form kind v small q
 answer_form kind (And a q) v small = quiet_form kind v small q
-answer_form kind (Nand a) v small = small
 answer_form kind (Or a q) v small = quiet_form kind v small q
 answer_form kind (Xor a q) v small = quiet_form kind v small q
-answer_form kind (Max a) v small = small
-answer_form kind (Min a) v small = small
 answer_form kind (Not q) v small = quiet_form kind v small q
 answer_form kind (Neg q) v small = quiet_form kind v small q
 answer_form kind (BitSet p) v small = tt
 answer_form kind (BitClear p) v small = tt
 answer_form kind (BitToggle p) v small = tt
+answer_form kind _ v small = small
 
 -- a weak exchange may fail besides
 spurious_form : (kind : Kind) (call : Call) (v : ℕ) (r : Reply) (w : ℕ) → v < values_of kind → IsSpurious call v r w → HasForm (form_of call) kind r

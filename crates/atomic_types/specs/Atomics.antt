@@ -1,5 +1,5 @@
 -- What contracts say of typed calls.
-use Rattle.std.specs.Prelude.{◌≡◌, ℕ, ◌<◌, Bool, true, false, if◌then◌else◌, List, length, ⊤, Result, Ok, Err}
+use Rattle.std.specs.Prelude.{◌≡◌, ℕ, ◌<◌, Bool, if◌then◌else◌, length, ⊤, Result, Ok, Err}
 use Rattle.op_table.specs.declared.kind.Kind.{Kind}
 use Rattle.op_table.specs.declared.call.Call.{Call}
 use Rattle.op_table.specs.declared.call.Call.TheVariants.{Load, Store, Swap, Cas, CasWeak, Add, Sub, And, Nand, Or, Xor, Max, Min, Not, Neg, BitSet, BitClear, BitToggle}
@@ -20,8 +20,9 @@ pub data Form : Type 0 where
   Bit : Form
   Exchanged : Form
 
-abbrev pub unless_quiet : Bool → Form
-unless_quiet q = if q then Nothing else Before
+-- the value before, unless the call is quiet
+abbrev pub form_unless_quiet : Bool → Form
+form_unless_quiet q = if q then Nothing else Before
 
 -- the form of a call's answer
 abbrev pub form_of : Call → Form
@@ -30,16 +31,16 @@ form_of (Store a) = Nothing
 form_of (Swap a) = Before
 form_of (Cas e n) = Exchanged
 form_of (CasWeak e n) = Exchanged
-form_of (Add a q) = unless_quiet q
-form_of (Sub a q) = unless_quiet q
-form_of (And a q) = unless_quiet q
+form_of (Add a q) = form_unless_quiet q
+form_of (Sub a q) = form_unless_quiet q
+form_of (And a q) = form_unless_quiet q
 form_of (Nand a) = Before
-form_of (Or a q) = unless_quiet q
-form_of (Xor a q) = unless_quiet q
+form_of (Or a q) = form_unless_quiet q
+form_of (Xor a q) = form_unless_quiet q
 form_of (Max a) = Before
 form_of (Min a) = Before
-form_of (Not q) = unless_quiet q
-form_of (Neg q) = unless_quiet q
+form_of (Not q) = form_unless_quiet q
+form_of (Neg q) = form_unless_quiet q
 form_of (BitSet p) = Bit
 form_of (BitClear p) = Bit
 form_of (BitToggle p) = Bit

@@ -8,7 +8,7 @@ use Rattle.std.proofs.lemmas.Nat.{and_assoc, and_comm, or_comm, xor_comm, mod-mu
 use Rattle.std.proofs.lemmas.Nat.Bits.{same_from_bits, bit_at_or}
 use Rattle.op_table.specs.declared.kind.Kind.{Kind}
 use Rattle.op_table.specs.declared.call.Call.{Call}
-use Rattle.op_table.specs.declared.call.Call.TheVariants.{Load, Store, Swap, Cas, CasWeak, Add, Sub, And, Nand, Or, Xor, Max, Min, Not, Neg, BitSet, BitClear, BitToggle}
+use Rattle.op_table.specs.declared.call.Call.TheVariants.{Add, Sub, And, Or, Xor, Max, Min, Not, BitSet, BitClear, BitToggle}
 use Rattle.op_table.specs.Kind.{bits_of, values_of}
 use Rattle.op_table.specs.Call.{after_of, rank_of, bit_place, CallFits}
 use Rattle.op_table.proofs.Rows.{place_fits}
@@ -28,52 +28,40 @@ act k Clears n v = bit_and v n
 act k Maxima n v = if nat_lt (rank_of k v) (rank_of k n) then n else v
 act k Minima n v = if nat_lt (rank_of k n) (rank_of k v) then n else v
 
--- the number of a member
+-- the number of a member; 0 of a call of no family
 abbrev pub operand : Kind → Call → ℕ
-operand k Load = 0
-operand k (Store a) = 0
-operand k (Swap a) = 0
-operand k (Cas e n) = 0
-operand k (CasWeak e n) = 0
 operand k (Add a q) = a
 operand k (Sub a q) = values_of k - a
 operand k (And a q) = a
-operand k (Nand a) = 0
 operand k (Or a q) = a
 operand k (Xor a q) = a
 operand k (Max a) = a
 operand k (Min a) = a
 operand k (Not q) = values_of k - 1
-operand k (Neg q) = 0
 operand k (BitSet p) = bit_place k p
 operand k (BitClear p) = values_of k - 1 - bit_place k p
 operand k (BitToggle p) = bit_place k p
+operand k _ = 0
 
 -- a family's one member: the family that a call is said to be of is its own
 in_family : (f g : Family) (P : Family → Type 0) → One g ≡ One f → P g → P f
 in_family f g P is p = let same : g ≡ f = cc in subst P same p
 
 pub acts : (k : Kind) (c : Call) (f : Family) (v : ℕ) → mix_of c ≡ One f → v < values_of k → after_of k c v ≡ act k f (operand k c) v
-acts k Load f v is small = absurd cc
-acts k (Store a) f v is small = absurd cc
-acts k (Swap a) f v is small = absurd cc
-acts k (Cas e n) f v is small = absurd cc
-acts k (CasWeak e n) f v is small = absurd cc
 acts k (Add a q) f v is small = in_family f Sums (λ h. (v + a) % values_of k ≡ act k h a v) is refl
 acts k (Sub a q) f v is small = in_family f Sums (λ h. (v + (values_of k - a)) % values_of k ≡ act k h (values_of k - a) v) is refl
 acts k (And a q) f v is small = in_family f Clears (λ h. bit_and v a ≡ act k h a v) is refl
-acts k (Nand a) f v is small = absurd cc
 acts k (Or a q) f v is small = in_family f Sets (λ h. bit_or v a ≡ act k h a v) is refl
 acts k (Xor a q) f v is small = in_family f Flips (λ h. bit_xor v a ≡ act k h a v) is refl
 acts k (Max a) f v is small = in_family f Maxima (λ h. after_of k (Max a) v ≡ act k h a v) is refl
 acts k (Min a) f v is small = in_family f Minima (λ h. after_of k (Min a) v ≡ act k h a v) is refl
 acts k (Not q) f v is small = in_family f Flips (λ h. values_of k - 1 - v ≡ act k h (values_of k - 1) v) is (sym (xor_ones (bits_of k.width) v small))
-acts k (Neg q) f v is small = absurd cc
 acts k (BitSet p) f v is small = in_family f Sets (λ h. bit_or v (bit_place k p) ≡ act k h (bit_place k p) v) is refl
 acts k (BitClear p) f v is small =
     in_family f Clears (λ h. v - bit_and v (bit_place k p) ≡ act k h (values_of k - 1 - bit_place k p) v) is
     (sym (and_without (bits_of k.width) v (bit_place k p) small (place_fits k p)))
 acts k (BitToggle p) f v is small = in_family f Flips (λ h. bit_xor v (bit_place k p) ≡ act k h (bit_place k p) v) is refl
+acts k _ f v is small = absurd cc
 
 -- what is asked of the number: that of a maximum or minimum is a value
 abbrev pub OperandFits : Kind → Family → ℕ → Type 0
@@ -85,24 +73,18 @@ OperandFits k Maxima n = n < values_of k
 OperandFits k Minima n = n < values_of k
 
 pub operand_fits : (k : Kind) (c : Call) (f : Family) → mix_of c ≡ One f → CallFits k c → OperandFits k f (operand k c)
-operand_fits k Load f is fits = absurd cc
-operand_fits k (Store a) f is fits = absurd cc
-operand_fits k (Swap a) f is fits = absurd cc
-operand_fits k (Cas e n) f is fits = absurd cc
-operand_fits k (CasWeak e n) f is fits = absurd cc
 operand_fits k (Add a q) f is fits = in_family f Sums (λ h. OperandFits k h a) is tt
 operand_fits k (Sub a q) f is fits = in_family f Sums (λ h. OperandFits k h (values_of k - a)) is tt
 operand_fits k (And a q) f is fits = in_family f Clears (λ h. OperandFits k h a) is tt
-operand_fits k (Nand a) f is fits = absurd cc
 operand_fits k (Or a q) f is fits = in_family f Sets (λ h. OperandFits k h a) is tt
 operand_fits k (Xor a q) f is fits = in_family f Flips (λ h. OperandFits k h a) is tt
 operand_fits k (Max a) f is fits = in_family f Maxima (λ h. OperandFits k h a) is fits.0
 operand_fits k (Min a) f is fits = in_family f Minima (λ h. OperandFits k h a) is fits.0
 operand_fits k (Not q) f is fits = in_family f Flips (λ h. OperandFits k h (values_of k - 1)) is tt
-operand_fits k (Neg q) f is fits = absurd cc
 operand_fits k (BitSet p) f is fits = in_family f Sets (λ h. OperandFits k h (bit_place k p)) is tt
 operand_fits k (BitClear p) f is fits = in_family f Clears (λ h. OperandFits k h (values_of k - 1 - bit_place k p)) is tt
 operand_fits k (BitToggle p) f is fits = in_family f Flips (λ h. OperandFits k h (bit_place k p)) is tt
+operand_fits k _ f is fits = absurd cc
 
 -- ---- each family in either order
 

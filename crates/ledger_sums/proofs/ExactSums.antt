@@ -4,7 +4,7 @@ use Rattle.std.proofs.Math.Nat.{mod-add-mod}
 use Rattle.std.proofs.lemmas.Nat.{mod-mul-add, pow_pos}
 use Rattle.op_table.specs.declared.kind.Kind.{Kind}
 use Rattle.op_table.specs.declared.call.Call.{Call}
-use Rattle.op_table.specs.declared.call.Call.TheVariants.{Load, Store, Swap, Cas, CasWeak, Add, Sub, And, Nand, Or, Xor, Max, Min, Not, Neg, BitSet, BitClear, BitToggle}
+use Rattle.op_table.specs.declared.call.Call.TheVariants.{Load, Add, Sub}
 use Rattle.op_table.specs.Kind.{bits_of, values_of}
 use Rattle.op_table.specs.Call.{after_of}
 use Rattle.ledger_sums.specs.declared.families.Family.TheVariants.{Sums}
@@ -19,23 +19,9 @@ nothing_added k v small = sym (ap (λ x. x % values_of k) (let e : v + 0 ≡ 0 *
 
 added : (k : Kind) (c : Call) (v : ℕ) → suits Sums (mix_of c) ≡ true → v < values_of k → after_of k c v ≡ (v + added_by k c) % values_of k
 added k Load v suited small = nothing_added k v small
-added k (Store a) v suited small = absurd cc
-added k (Swap a) v suited small = absurd cc
-added k (Cas e n) v suited small = absurd cc
-added k (CasWeak e n) v suited small = absurd cc
 added k (Add a q) v suited small = refl
 added k (Sub a q) v suited small = refl
-added k (And a q) v suited small = absurd cc
-added k (Nand a) v suited small = absurd cc
-added k (Or a q) v suited small = absurd cc
-added k (Xor a q) v suited small = absurd cc
-added k (Max a) v suited small = absurd cc
-added k (Min a) v suited small = absurd cc
-added k (Not q) v suited small = absurd cc
-added k (Neg q) v suited small = absurd cc
-added k (BitSet p) v suited small = absurd cc
-added k (BitClear p) v suited small = absurd cc
-added k (BitToggle p) v suited small = absurd cc
+added k _ v suited small = absurd cc
 
 added_all : (k : Kind) (v : ℕ) (calls : List Call) → all_suit Sums calls ≡ true → v < values_of k → after_calls k v calls ≡ (v + total_of k calls) % values_of k
 added_all k v [] all small = nothing_added k v small

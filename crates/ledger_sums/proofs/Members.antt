@@ -2,7 +2,7 @@
 use Rattle.std.proofs.Common.{◌≡◌, ◌⊎◌, inl, inr, ⊎_elim, ℕ, ◌<◌, Bool, true, false, refl, ap, sym, ◌∙◌}
 use Rattle.op_table.specs.declared.kind.Kind.{Kind}
 use Rattle.op_table.specs.declared.call.Call.{Call}
-use Rattle.op_table.specs.declared.call.Call.TheVariants.{Load, Store, Swap, Cas, CasWeak, Add, Sub, And, Nand, Or, Xor, Max, Min, Not, Neg, BitSet, BitClear, BitToggle}
+use Rattle.op_table.specs.declared.call.Call.TheVariants.{Load, Cas, CasWeak, Add, Sub, And, Or, Xor, Not, Neg}
 use Rattle.op_table.specs.declared.call.Reply.{Reply}
 use Rattle.op_table.specs.Kind.{values_of, IsKind}
 use Rattle.op_table.specs.Call.{after_of, answer_of, unless_quiet, IsSpurious, Permits, CallFits}
@@ -30,23 +30,7 @@ load_or_member f Other suited = absurd cc
 -- a load leaves the value
 still : (k : Kind) (c : Call) (v : ℕ) → mix_of c ≡ Loads → after_of k c v ≡ v
 still k Load v is = refl
-still k (Store a) v is = absurd cc
-still k (Swap a) v is = absurd cc
-still k (Cas e n) v is = absurd cc
-still k (CasWeak e n) v is = absurd cc
-still k (Add a q) v is = absurd cc
-still k (Sub a q) v is = absurd cc
-still k (And a q) v is = absurd cc
-still k (Nand a) v is = absurd cc
-still k (Or a q) v is = absurd cc
-still k (Xor a q) v is = absurd cc
-still k (Max a) v is = absurd cc
-still k (Min a) v is = absurd cc
-still k (Not q) v is = absurd cc
-still k (Neg q) v is = absurd cc
-still k (BitSet p) v is = absurd cc
-still k (BitClear p) v is = absurd cc
-still k (BitToggle p) v is = absurd cc
+still k _ v is = absurd cc
 
 both_members : (k : Kind) (f : Family) (c d : Call) (v : ℕ) → IsKind k → CallFits k c → CallFits k d → mix_of c ≡ One f → mix_of d ≡ One f → v < values_of k → after_of k d (after_of k c v) ≡ after_of k c (after_of k d v)
 both_members k f c d v valid fits fits_too is too small =
@@ -72,44 +56,20 @@ quiet_or_not true u next w = refl
 quiet_or_not false u next w = refl
 
 answered : (k : Kind) (f : Family) (c : Call) (u next w : ℕ) → suits f (mix_of c) ≡ true → effect_of (answer_of k c u) next w ≡ next
-answered k f Load u next w suited = refl
-answered k f (Store a) u next w suited = absurd cc
-answered k f (Swap a) u next w suited = absurd cc
 answered k f (Cas e n) u next w suited = absurd cc
 answered k f (CasWeak e n) u next w suited = absurd cc
 answered k f (Add a q) u next w suited = quiet_or_not q u next w
 answered k f (Sub a q) u next w suited = quiet_or_not q u next w
 answered k f (And a q) u next w suited = quiet_or_not q u next w
-answered k f (Nand a) u next w suited = absurd cc
 answered k f (Or a q) u next w suited = quiet_or_not q u next w
 answered k f (Xor a q) u next w suited = quiet_or_not q u next w
-answered k f (Max a) u next w suited = refl
-answered k f (Min a) u next w suited = refl
 answered k f (Not q) u next w suited = quiet_or_not q u next w
-answered k f (Neg q) u next w suited = absurd cc
-answered k f (BitSet p) u next w suited = refl
-answered k f (BitClear p) u next w suited = refl
-answered k f (BitToggle p) u next w suited = refl
+answered k f (Neg q) u next w suited = quiet_or_not q u next w
+answered k f _ u next w suited = refl
 
 not_spurious : (f : Family) (c : Call) (u z : ℕ) (r : Reply) → suits f (mix_of c) ≡ true → IsSpurious c u r z → ⊥
-not_spurious f Load u z r suited spurious = spurious
-not_spurious f (Store a) u z r suited spurious = spurious
-not_spurious f (Swap a) u z r suited spurious = spurious
-not_spurious f (Cas e n) u z r suited spurious = spurious
 not_spurious f (CasWeak e n) u z r suited spurious = absurd cc
-not_spurious f (Add a q) u z r suited spurious = spurious
-not_spurious f (Sub a q) u z r suited spurious = spurious
-not_spurious f (And a q) u z r suited spurious = spurious
-not_spurious f (Nand a) u z r suited spurious = spurious
-not_spurious f (Or a q) u z r suited spurious = spurious
-not_spurious f (Xor a q) u z r suited spurious = spurious
-not_spurious f (Max a) u z r suited spurious = spurious
-not_spurious f (Min a) u z r suited spurious = spurious
-not_spurious f (Not q) u z r suited spurious = spurious
-not_spurious f (Neg q) u z r suited spurious = spurious
-not_spurious f (BitSet p) u z r suited spurious = spurious
-not_spurious f (BitClear p) u z r suited spurious = spurious
-not_spurious f (BitToggle p) u z r suited spurious = spurious
+not_spurious f _ u z r suited spurious = spurious
 
 pub leaves_after : (k : Kind) (f : Family) (c : Call) (u z : ℕ) (r : Reply) → suits f (mix_of c) ≡ true → Permits k c u r z → (w : ℕ) → effect_of r (after_of k c w) w ≡ after_of k c w
 leaves_after k f c u z r suited permitted w = ⊎_elim
