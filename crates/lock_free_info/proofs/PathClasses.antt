@@ -20,7 +20,7 @@ use Rattle.layout_plan.proofs.LaidObjects.{lane_is_narrow}
 use Rattle.lock_free_info.specs.declared.classes.PathClass.{PathClass}
 use Rattle.lock_free_info.specs.declared.classes.PathClass.TheVariants.{Locked}
 use Rattle.lock_free_info.specs.Classes.{class_by, class_of}
-use Rattle.lock_free_info.specs.Calls.{call_of}
+use Rattle.work_lang.specs.Operands.{zero_call}
 use Rattle.lock_free_info.specs.Laws.{LaneIsLockFree, LockedIsNotLockFree, WordHasOnePath}
 
 -- ---- locks
@@ -78,22 +78,17 @@ module _ (steps : StepSet) where
     abbrev class_on : Call → PathClass
     class_on x = class_by (path_by steps (op_for k s d sole x))
 
-    sum_on : (c : Class) (a : ℕ) (q : Bool) → class_on (call.Add a q) ≡ class_on (call_of (sum_operation c q FetchAdd Add FetchByteAdd))
+    sum_on : (c : Class) (a : ℕ) (q : Bool) → class_on (call.Add a q) ≡ class_on (zero_call (sum_operation c q FetchAdd Add FetchByteAdd))
     sum_on class.Int a true = same_only (is_top s d) _ _ refl
-    sum_on class.Int a false = same_only (is_top s d) _ _ refl
     sum_on class.Bool a true = same_only (is_top s d) _ _ refl
-    sum_on class.Bool a false = same_only (is_top s d) _ _ refl
-    sum_on class.Ptr a q = same_only (is_top s d) _ _ refl
+    sum_on _ a q = same_only (is_top s d) _ _ refl
 
-    difference_on : (c : Class) (a : ℕ) (q : Bool) → class_on (call.Sub a q) ≡ class_on (call_of (sum_operation c q FetchSub Sub FetchByteSub))
+    difference_on : (c : Class) (a : ℕ) (q : Bool) → class_on (call.Sub a q) ≡ class_on (zero_call (sum_operation c q FetchSub Sub FetchByteSub))
     difference_on class.Int a true = same_only (is_top s d) _ _ refl
-    difference_on class.Int a false = same_only (is_top s d) _ _ refl
     difference_on class.Bool a true = same_only (is_top s d) _ _ refl
-    difference_on class.Bool a false = same_only (is_top s d) _ _ refl
-    difference_on class.Ptr a q = same_only (is_top s d) _ _ refl
+    difference_on _ a q = same_only (is_top s d) _ _ refl
 
-    on_lane : (x : Call) → class_on x ≡ class_on (call_of (operation_of k x))
-    on_lane call.Load = refl
+    on_lane : (x : Call) → class_on x ≡ class_on (zero_call (operation_of k x))
     on_lane (call.Store a) = same_only sole _ _ refl
     on_lane (call.Swap a) = same_only sole _ _ refl
     on_lane (call.Cas e n) = same_only sole _ _ refl
@@ -102,7 +97,6 @@ module _ (steps : StepSet) where
     on_lane (call.Sub a q) = difference_on k.class a q
     on_lane (call.And a true) = same_choice steps.bits _ _
     on_lane (call.And a false) = same_choice steps.bits _ _
-    on_lane (call.Nand a) = refl
     on_lane (call.Or a true) = same_choice steps.bits _ _
     on_lane (call.Or a false) = same_choice steps.bits _ _
     on_lane (call.Xor a true) = same_choice steps.bits _ _
@@ -110,14 +104,13 @@ module _ (steps : StepSet) where
     on_lane (call.Max a) = same_only _ _ _ refl
     on_lane (call.Min a) = same_only _ _ _ refl
     on_lane (call.Not true) = refl
-    on_lane (call.Not false) = refl
     on_lane (call.Neg true) = refl
-    on_lane (call.Neg false) = refl
     on_lane (call.BitSet p) = same_choice steps.bits _ _
     on_lane (call.BitClear p) = same_choice steps.bits _ _
     on_lane (call.BitToggle p) = same_choice steps.bits _ _
+    on_lane _ = refl
 
-at_place : (S : Shape) (k : Kind) (x : Call) (p : Option Place) → class_by (path_at S k x p) ≡ class_by (path_at S k (call_of (operation_of k x)) p)
+at_place : (S : Shape) (k : Kind) (x : Call) (p : Option Place) → class_by (path_at S k x p) ≡ class_by (path_at S k (zero_call (operation_of k x)) p)
 at_place S k x None = refl
 at_place S k x (Some (Lane w s d)) = on_lane S.steps k s d (is_sole S w) x
 at_place S k x (Some (Parts l f n b)) = refl

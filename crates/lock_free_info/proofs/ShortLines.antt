@@ -24,7 +24,7 @@ use Rattle.work_lang.specs.Canonical.{target_line}
 use Rattle.lock_free_info.specs.declared.classes.PathClass.{PathClass}
 use Rattle.lock_free_info.specs.declared.classes.PathClass.TheVariants as path_class
 use Rattle.lock_free_info.specs.Classes.{class_of}
-use Rattle.lock_free_info.specs.Calls.{call_of}
+use Rattle.work_lang.specs.Operands.{zero_call}
 use Rattle.lock_free_info.specs.PlanTable.{class_word, field, word_line, word_lines, place_text, object_line, object_lines, lines_from}
 use Rattle.lock_free_info.specs.Laws.{IsShortLine, HasShortName, PlanLinesAreShort}
 
@@ -75,7 +75,7 @@ word_is_short x op c named =
 
 words_are_short : (S : Shape) (o : ℕ) (x : Declared) (ops : List Operation) → HasShortName x → AllByRecursion IsShortLine (word_lines S o x ops)
 words_are_short S o x [] named = tt
-words_are_short S o x (op ∷ ops) named = (word_is_short x op (class_of S o (call_of op)) named, words_are_short S o x ops named)
+words_are_short S o x (op ∷ ops) named = (word_is_short x op (class_of S o (zero_call op)) named, words_are_short S o x ops named)
 
 object_is_short : (x : Declared) (a : ℕ) (p : Place) → HasShortName x → IsKind x.kind → a < 2 ^ 32 → length (place_text p) ≤ 66 → IsShortLine (object_line x a p)
 object_is_short x a p named kind small placed =

@@ -17,7 +17,7 @@ use Rattle.layout_plan.proofs.LaneCounts.{path_at_place}
 use Rattle.work_lang.proofs.Firsts.{others, first_others}
 use Rattle.lock_free_info.specs.declared.classes.PathClass.{PathClass}
 use Rattle.lock_free_info.specs.Classes.{class_by, class_of}
-use Rattle.lock_free_info.specs.Calls.{call_of}
+use Rattle.work_lang.specs.Operands.{zero_call}
 use Rattle.work_lang.specs.Canonical.{target_line}
 use Rattle.lock_free_info.specs.PlanTable.{word_line, word_lines, object_line, object_lines, lines_from, plan_lines}
 
@@ -30,7 +30,7 @@ class_known S o a x sole path class at told made is =
     is ∙ ap class_by (made ∙ ap (λ (b : Bool). path_with S.steps a.kind x a.place b) told ∙ path_at_place S a.kind x a.place
     ∙ (λ i. path_at S (sym (kind_of-at S o a at) i) x (sym (place_of-at S o a at) i)))
 
-pub words_step : (S : Shape) (o : ℕ) (x : Declared) (ops : List Operation) (default : Operation) (class : PathClass) → 1 ≤ length ops → class ≡ class_of S o (call_of (get_or ops 0 default))
+pub words_step : (S : Shape) (o : ℕ) (x : Declared) (ops : List Operation) (default : Operation) (class : PathClass) → 1 ≤ length ops → class ≡ class_of S o (zero_call (get_or ops 0 default))
     → word_lines S o x ops ≡ (word_line x (get_or ops 0 default) class ∷ []) ++ word_lines S o x (others ops)
 words_step S o x ops default class some is =
     ap (λ (l : List Operation). word_lines S o x l) (first_others ops default some)

@@ -15,7 +15,7 @@ use Rattle.layout_plan.specs.Layout.{AreDeclared, shape_of}
 use Rattle.layout_plan.specs.Laws.{HasLane}
 use Rattle.lock_free_info.specs.declared.classes.PathClass.TheVariants.{Locked}
 use Rattle.lock_free_info.specs.Classes.{IsLockFree, class_of}
-use Rattle.lock_free_info.specs.Calls.{call_of}
+use Rattle.work_lang.specs.Operands.{zero_call}
 use Rattle.lock_free_info.specs.PlanTable.{plan_lines}
 
 -- on a laid shape an object has a lane exactly where its kind is lock-free
@@ -29,7 +29,7 @@ LockedIsNotLockFree = (t : Target) (xs : List Declared) (o : ℕ) (x : Declared)
 
 -- the call for a word is one that the kind has, and is of that word
 abbrev pub IsCallOf : Kind → Operation → Type 0
-IsCallOf k op = CallFits k (call_of op) × (operation_of k (call_of op) ≡ op)
+IsCallOf k op = CallFits k (zero_call op) × (operation_of k (zero_call op) ≡ op)
 
 -- each word of a kind's class has such a call
 abbrev pub WordsHaveCalls : Type 0
@@ -37,7 +37,7 @@ WordsHaveCalls = (k : Kind) → AllByRecursion (IsCallOf k) (operations_of k.cla
 
 -- a word has one class of path on an object, whatever its operands are
 abbrev pub WordHasOnePath : Type 0
-WordHasOnePath = (S : Shape) (o : ℕ) (call : Call) → class_of S o call ≡ class_of S o (call_of (operation_of (kind_of S o) call))
+WordHasOnePath = (S : Shape) (o : ℕ) (call : Call) → class_of S o call ≡ class_of S o (zero_call (operation_of (kind_of S o) call))
 
 -- the name has at most 16 bytes
 abbrev pub HasShortName : Declared → Type 0

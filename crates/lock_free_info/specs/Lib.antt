@@ -1,4 +1,3 @@
 pub mod Classes
-pub mod Calls
 pub mod PlanTable
 pub mod Laws

@@ -15,7 +15,7 @@ use Rattle.work_lang.specs.Canonical.{target_line}
 use Rattle.lock_free_info.specs.declared.classes.PathClass.{PathClass}
 use Rattle.lock_free_info.specs.declared.classes.PathClass.TheVariants as path_class
 use Rattle.lock_free_info.specs.Classes.{class_of}
-use Rattle.lock_free_info.specs.Calls.{call_of}
+use Rattle.work_lang.specs.Operands.{zero_call}
 
 abbrev pub class_word : PathClass → List ℕ
 class_word path_class.One = codes "one"
@@ -41,7 +41,7 @@ object_line x a place = x.name ++ 32 ∷ (kind_word x.kind ++ field (codes " add
 
 -- the words of object o of a shape, and the classes of their paths
 abbrev pub word_lines : Shape → ℕ → Declared → List Operation → List (List ℕ)
-word_lines S o x ops = map (λ (op : Operation). word_line x op (class_of S o (call_of op))) ops
+word_lines S o x ops = map (λ (op : Operation). word_line x op (class_of S o (zero_call op))) ops
 
 -- an object, and then each word of its class, in the order of the table of words
 abbrev pub object_lines : Target → Shape → ℕ → Declared → ℕ → List (List ℕ)

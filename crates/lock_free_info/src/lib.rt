@@ -1,7 +1,6 @@
 //! Which objects need no lock, and by which class of path each call on them is made.
 #![tactic(auto)]
 
-mod calls;
 mod classes;
 pub mod laws;
 mod table;

@@ -12,13 +12,12 @@ ghost use Rattle.work_lang.specs.Streams.{Writes};
 ghost use Rattle.lock_free_info.specs.PlanTable.{class_word, field, place_text, word_line, object_line};
 ghost use Rattle.lock_free_info.specs.PlanTable.{word_lines, object_lines, lines_from, plan_lines};
 
-use crate::calls::{call_of, operations_of};
 use crate::classes::{PathClass, class_by};
 use layout_plan::{is_sole_at, next_address, path_with};
-use op_table::{LineBuf, Operation, bytes, kind_word, operation_word};
+use op_table::{LineBuf, Operation, bytes, kind_word, operation_word, operations_of};
 use place_core::{Declared, Place, Shape};
 use target_desc::Target;
-use work_lang::{Sink, Work, WriteEnd, write_all, write_target};
+use work_lang::{Sink, Work, WriteEnd, write_all, write_target, zero_call};
 
 fn class_word(class: PathClass) -> &'static str
     ensures word { result.now ≡ class_word class }
@@ -67,7 +66,7 @@ fn write_words<K: Sink>(
     let sole = is_sole_at(shape, object.place);
     let mut rest = operations_of(declared.kind.class);
     'words: while let [operation, others @ ..] = rest {
-        let path = path_with(shape, &object, sole, &call_of(*operation));
+        let path = path_with(shape, &object, sole, &zero_call(*operation));
         match write_word(declared, *operation, class_by(path), sink) {
             Ok(()) => {}
             Err(end) => return Err(end),

@@ -1,8 +1,8 @@
 -- The words of a description are read as what they were printed of, and as nothing else.
-use Rattle.std.proofs.Common.{◌≡◌, ◌⊎◌, Bool, true, false, not, ◌&&◌, cond, leb, eqb, ℕ, ◌≤◌, ◌^◌, List, [], ◌∷◌, Option, Some, None, Result, Ok, Err, codes, refl, sym, ap, ◌∙◌, inl, inr, arith}
+use Rattle.std.proofs.Common.{◌≡◌, ◌⊎◌, Bool, true, false, ◌&&◌, cond, leb, ℕ, ◌≤◌, ◌^◌, List, [], ◌∷◌, Option, Some, None, Result, Ok, Err, codes, refl, sym, ap, ◌∙◌, inl, inr, arith}
 use Rattle.std.specs.Str.{bytes_eq}
 use Rattle.std.specs.Fmt.{decimal}
-use Rattle.std.proofs.lemmas.Bool.{and_parts, and_from, leb-true, le-leb, lt-ltb, eqb-true}
+use Rattle.std.proofs.lemmas.Bool.{and_parts, and_from, leb-true, le-leb, lt-ltb}
 use Rattle.std.proofs.lemmas.Slice.Eq.{bytes_eq-Decides}
 use Rattle.op_table.specs.declared.order.StepSet.{StepSet}
 use Rattle.op_table.specs.declared.kind.Width.TheVariants.{W32}
@@ -13,9 +13,8 @@ use Rattle.op_table.proofs.Tables.{among_rows_by}
 use Rattle.op_table.proofs.Digits.{chosen}
 use Rattle.op_table.proofs.ValueTexts.{printed_is_read, value_has_one_text}
 use Rattle.target_desc.specs.declared.target.Target.{Target}
-use Rattle.target_desc.specs.Target.{no_steps, IsSection, same_steps, suits_section}
+use Rattle.target_desc.specs.Target.{IsSection, suits_section}
 use Rattle.target_desc.specs.Fields.{packed_word, steps_word, section_word, bits_of, packed_of, step_sets, steps_of, locks_in, locks_of, section_of}
-use Rattle.target_desc.proofs.Rows.{steps_are_same}
 
 some_is : {A : Type 0} (x y : A) → Some x ≡ Some y → x ≡ y
 some_is x y e = cc
@@ -116,16 +115,6 @@ locks_back n some most =
     ∙ ap (λ (b : Bool). cond b (Some n) None) (and_from _ _ (le-leb 1 n some) (le-leb n 67 most))
 
 -- ---- section
-
-not_true : (b : Bool) → not b ≡ true → b ≡ false
-not_true true e = sym e
-not_true false e = refl
-
-pub suits_is : (t : Target) → suits_section t.packed t.steps t.locks ≡ true → IsSection t
-suits_is t e =
-    let locks = and_parts (not t.packed && same_steps t.steps no_steps) (eqb t.locks 1) e in
-    let packed = and_parts (not t.packed) (same_steps t.steps no_steps) locks.0 in
-    record { apart = not_true t.packed packed.0; steps = steps_are_same t.steps no_steps packed.1; locks = eqb-true t.locks 1 locks.1 }
 
 pub suits_back : (t : Target) → IsSection t → suits_section t.packed t.steps t.locks ≡ true
 suits_back t is = λ i. suits_section (is.apart i) (is.steps i) (is.locks i)

@@ -1,5 +1,5 @@
 -- The text of a target: its words, how long it is, and that it is read again.
-use Rattle.std.proofs.Common.{◌≡◌, ◌⊎◌, Bool, true, false, ◌&&◌, ltb, leb, eqb, ℕ, ◌+◌, ◌≤◌, ◌<◌, List, [], ◌∷◌, ◌++◌, length, Option, Some, None, refl, sym, ap, subst, ◌∙◌, inl, inr, arith, length-append}
+use Rattle.std.proofs.Common.{◌≡◌, ◌⊎◌, Bool, true, false, ◌&&◌, ltb, leb, eqb, ℕ, ◌+◌, ◌≤◌, ◌<◌, List, [], ◌∷◌, ◌++◌, length, Option, Some, None, refl, ap, subst, ◌∙◌, inl, inr, arith, length-append}
 use Rattle.std.specs.Prelude.{filter}
 use Rattle.std.specs.List.{list_all, slice_split, join_with_byte, AllByRecursion}
 use Rattle.std.specs.Fmt.{decimal}
@@ -14,13 +14,13 @@ use Rattle.op_table.specs.Words.{integer}
 use Rattle.op_table.specs.Laws.{is_word_byte, IsWordUpTo}
 use Rattle.op_table.proofs.ValueTexts.{value_text_is_short}
 use Rattle.target_desc.specs.declared.target.Target.{Target}
-use Rattle.target_desc.specs.Target.{IsTarget, name_of}
+use Rattle.target_desc.specs.Target.{IsTarget, builtins, name_of}
 use Rattle.target_desc.specs.Fields.{packed_word, steps_word, section_word}
 use Rattle.target_desc.specs.Reading.{target_at, reading_of_target}
 use Rattle.target_desc.specs.Text.{description_words, description_text, words_by, target_words}
 use Rattle.target_desc.specs.Spelling.{IsName, IsTargetText}
 use Rattle.target_desc.specs.Laws.{is_printable, PrintedIsRead, NameIsPrinted, DescriptionIsPrinted, TextIsShort, TextIsPrintable, WordsArePlain, TextHasWords}
-use Rattle.target_desc.proofs.Rows.{name_named, name_is_name}
+use Rattle.target_desc.proofs.Rows.{row_passes, name_named, name_is_name}
 use Rattle.target_desc.proofs.Described.{number_text}
 use Rattle.target_desc.proofs.Readings.{reading_is_spelling}
 
@@ -77,12 +77,7 @@ bits_small n (inl e) = omega arith
 bits_small n (inr e) = omega arith
 
 name_plain : (name : List ℕ) (t : Target) → IsName name t → IsWordUpTo 9 name
-name_plain name t (inl p) = subst (IsWordUpTo 9) (sym p.0) (tested 9 _ refl)
-name_plain name t (inr (inl p)) = subst (IsWordUpTo 9) (sym p.0) (tested 9 _ refl)
-name_plain name t (inr (inr (inl p))) = subst (IsWordUpTo 9) (sym p.0) (tested 9 _ refl)
-name_plain name t (inr (inr (inr (inl p)))) = subst (IsWordUpTo 9) (sym p.0) (tested 9 _ refl)
-name_plain name t (inr (inr (inr (inr (inl p))))) = subst (IsWordUpTo 9) (sym p.0) (tested 9 _ refl)
-name_plain name t (inr (inr (inr (inr (inr none))))) = absurd none
+name_plain name t is = tested 9 name (row_passes (λ row. is_word_up_to 9 row.0) builtins refl name t is)
 
 -- ---- words of a text
 

@@ -14,8 +14,8 @@ use Rattle.target_desc.specs.Text.{description_words}
 use Rattle.target_desc.specs.Spelling.{IsName, IsTargetText}
 use Rattle.target_desc.specs.Laws.{ReadingIsSpelling, ReadIsTarget, SpellsOne}
 use Rattle.target_desc.proofs.Steps.{word_then, need_then, need_is, end_then}
-use Rattle.target_desc.proofs.Rows.{builtin_is_name, builtin_named, named_is_target}
-use Rattle.target_desc.proofs.Described.{bits_word, bits_back, packed_is, packed_back, steps_is, steps_back, locks_is, locks_back, suits_is, suits_back, section_is, section_back}
+use Rattle.target_desc.proofs.Rows.{builtin_is_name, builtin_named, suits_is, named_is_target}
+use Rattle.target_desc.proofs.Described.{bits_word, bits_back, packed_is, packed_back, steps_is, steps_back, locks_is, locks_back, suits_back, section_is, section_back}
 
 ok_is : (s t : Target) → ◌≡◌ {A = Result Target TargetFault} (Ok s) (Ok t) → s ≡ t
 ok_is s t e = cc

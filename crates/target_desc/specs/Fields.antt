@@ -6,6 +6,7 @@ use Rattle.op_table.specs.declared.kind.Width.TheVariants.{W32}
 use Rattle.op_table.specs.declared.value.ValueFault.{ValueFault}
 use Rattle.op_table.specs.Words.{among, rows_by, integer}
 use Rattle.op_table.specs.Value.{parsed_value}
+use Rattle.op_table.specs.Limits.{most_locks}
 use Rattle.target_desc.specs.Target.{suits_section}
 
 -- ---- words
@@ -54,10 +55,10 @@ unfoldable pub steps_of : List ℕ → Option StepSet
 steps_of w = among (rows_by steps_word step_sets) w
 
 abbrev pub locks_in : Result ℕ ValueFault → Option ℕ
-locks_in (Ok n) = if nat_le 1 n && nat_le n 67 then Some n else None
+locks_in (Ok n) = if nat_le 1 n && nat_le n most_locks then Some n else None
 locks_in (Err fault) = None
 
--- a number text of `u32` whose number is 1 to 67
+-- a number text of `u32` whose number is 1 to the most locks
 abbrev pub locks_of : List ℕ → Option ℕ
 locks_of w = locks_in (parsed_value (integer false W32) w)
 

@@ -29,11 +29,11 @@ ReadingIsSpelling = (c : Cursor) (t : Target) → (target_at c ≡ Ok t) ↔ IsT
 abbrev pub SpellsOne : Type 0
 SpellsOne = (words : List (List ℕ)) (s t : Target) → IsTargetText words s → IsTargetText words t → s ≡ t
 
--- the five names, and no other word, are names of targets
+-- the names of the table, and no other word, are names of targets
 abbrev pub BuiltinIsName : Type 0
 BuiltinIsName = (name : List ℕ) (t : Target) → (builtin_of name ≡ Some t) ↔ IsName name t
 
--- the five are targets
+-- those of the table are targets
 abbrev pub NamedIsTarget : Type 0
 NamedIsTarget = (name : List ℕ) (t : Target) → IsName name t → IsTarget t
 

@@ -9,7 +9,7 @@ abbrev pub HasRow : {A : Type 0} → List (List ℕ × A) → List ℕ → A →
 HasRow [] w x = ⊥
 HasRow (row ∷ rows) w x = ((w ≡ row.0) × (x ≡ row.1)) ⊎ HasRow rows w x
 
--- one of the five names, and its target
+-- a name of the table, and its target
 abbrev pub IsName : List ℕ → Target → Type 0
 IsName name t = HasRow builtins name t
 

@@ -1,7 +1,8 @@
--- Targets, and the five that have names.
+-- Targets, and the built-in ones, which have names.
 use Rattle.std.specs.Prelude.{◌≡◌, ◌⊎◌, ℕ, ◌≤◌, ◌==◌, Bool, true, false, not, ◌&&◌, List, [], ◌∷◌, codes, if◌then◌else◌, Option, Some, None}
 use Rattle.op_table.specs.declared.order.StepSet.{StepSet}
 use Rattle.op_table.specs.Words.{among}
+use Rattle.op_table.specs.Limits.{most_locks}
 use Rattle.target_desc.specs.declared.target.Target.{Target}
 
 abbrev pub no_steps : StepSet
@@ -21,7 +22,7 @@ pub record IsSection (t : Target) : Type 0 where
 pub record IsTarget (t : Target) : Type 0 where
   pub bits : (t.word_bits ≡ 32) ⊎ (t.word_bits ≡ 64)
   pub some : 1 ≤ t.locks
-  pub most : t.locks ≤ 67
+  pub most : t.locks ≤ most_locks
   pub section : t.section ≡ true → IsSection t
 
 -- ---- tests
@@ -31,22 +32,22 @@ same_bool true b = b
 same_bool false b = not b
 
 abbrev pub same_steps : StepSet → StepSet → Bool
-same_steps a b = same_bool a.swap b.swap && same_bool a.add b.add && same_bool a.bits b.bits && same_bool a.order b.order
+same_steps a b = same_bool a.swap b.swap && (same_bool a.add b.add && (same_bool a.bits b.bits && same_bool a.order b.order))
 
 abbrev pub same_target : Target → Target → Bool
-same_target s t = (s.word_bits == t.word_bits) && same_bool s.packed t.packed && same_steps s.steps t.steps && (s.locks == t.locks) && same_bool s.section t.section
+same_target s t = (s.word_bits == t.word_bits) && (same_bool s.packed t.packed && (same_steps s.steps t.steps && ((s.locks == t.locks) && same_bool s.section t.section)))
 
 abbrev pub suits_section : Bool → StepSet → ℕ → Bool
 suits_section packed steps locks = not packed && same_steps steps no_steps && (locks == 1)
 
--- ---- the five built-in targets
+-- ---- the built-in targets
 
 -- each with its name
 abbrev pub builtins : List (List ℕ × Target)
-builtins = (codes "full64", record { word_bits = 64; packed = false; steps = all_steps; locks = 67; section = false })
-    ∷ (codes "word64", record { word_bits = 64; packed = true; steps = all_steps; locks = 67; section = false })
-    ∷ (codes "word32", record { word_bits = 32; packed = true; steps = all_steps; locks = 67; section = false })
-    ∷ (codes "cas32", record { word_bits = 32; packed = true; steps = no_steps; locks = 67; section = false })
+builtins = (codes "full64", record { word_bits = 64; packed = false; steps = all_steps; locks = most_locks; section = false })
+    ∷ (codes "word64", record { word_bits = 64; packed = true; steps = all_steps; locks = most_locks; section = false })
+    ∷ (codes "word32", record { word_bits = 32; packed = true; steps = all_steps; locks = most_locks; section = false })
+    ∷ (codes "cas32", record { word_bits = 32; packed = true; steps = no_steps; locks = most_locks; section = false })
     ∷ (codes "section32", record { word_bits = 32; packed = false; steps = no_steps; locks = 1; section = true })
     ∷ []
 

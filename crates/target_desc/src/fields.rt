@@ -4,7 +4,7 @@ ghost use Rattle.std.specs.Prelude.{◌≡◌};
 ghost use Rattle.target_desc.specs.Fields.{bits_of, packed_of, packed_word, steps_of, steps_word, locks_of, section_of, section_word};
 
 use crate::target::suits_section;
-use op_table::{Class, Kind, StepSet, Width, read_value};
+use op_table::{Class, Kind, MOST_LOCKS, StepSet, Width, read_value};
 
 /// Word 1: the bits of a word.
 pub(crate) fn bits_of(word: &[u8]) -> Option<u32>
@@ -126,7 +126,7 @@ pub(crate) fn locks_of(word: &[u8]) -> Option<u32>
         class: Class::Int,
     };
     match read_value(kind, word) {
-        Ok(locks) if 1 <= locks && locks <= 67 => Some(locks as u32),
+        Ok(locks) if 1 <= locks && locks <= u128::from(MOST_LOCKS) => Some(locks as u32),
         _ => None,
     }
 }

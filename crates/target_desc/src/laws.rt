@@ -22,12 +22,12 @@ pub fn spells_one()
     ensures { SpellsOne }
 {}
 
-/// `builtin` knows the five names and no other.
+/// `builtin` knows the names of the built-in targets and no other.
 pub fn builtin_is_name()
     ensures { BuiltinIsName }
 {}
 
-/// The five that have names are targets.
+/// The built-in targets are targets.
 pub fn named_is_target()
     ensures { NamedIsTarget }
 {}

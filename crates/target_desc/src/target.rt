@@ -1,9 +1,9 @@
-//! Targets, and the five that have names.
+//! Targets, and the built-in ones, which have names.
 
-ghost use Rattle.std.specs.Prelude.{◌≡◌, ◌↔◌, IsTrue, MatchOption, Some, None};
-ghost use Rattle.target_desc.specs.Target.{IsTarget, suits_section, builtin_of, name_of};
+ghost use Rattle.std.specs.Prelude.{◌≡◌, ◌↔◌, IsTrue, MatchOption, Some, None, map};
+ghost use Rattle.target_desc.specs.Target.{IsTarget, suits_section, builtins, builtin_of, same_target, name_of};
 
-use op_table::StepSet;
+use op_table::{MOST_LOCKS, StepSet};
 
 /// A machine: how wide its words are, how objects are placed in them, and what it can do with a word in one step.
 /// Every target loads, stores, and compares and exchanges words. Not every combination is one; `target_ok` tells.
@@ -35,45 +35,59 @@ const ALL_STEPS: StepSet = StepSet {
     order: true,
 };
 
-const FULL64: Target = Target {
-    word_bits: 64,
-    packed: false,
-    steps: ALL_STEPS,
-    locks: 67,
-    section: false,
-};
-
-const WORD64: Target = Target {
-    word_bits: 64,
-    packed: true,
-    steps: ALL_STEPS,
-    locks: 67,
-    section: false,
-};
-
-const WORD32: Target = Target {
-    word_bits: 32,
-    packed: true,
-    steps: ALL_STEPS,
-    locks: 67,
-    section: false,
-};
-
-const CAS32: Target = Target {
-    word_bits: 32,
-    packed: true,
-    steps: NO_STEPS,
-    locks: 67,
-    section: false,
-};
-
-const SECTION32: Target = Target {
-    word_bits: 32,
-    packed: false,
-    steps: NO_STEPS,
-    locks: 1,
-    section: true,
-};
+/// The built-in targets, each with its name.
+const BUILTINS: [(&str, Target); 5] = [
+    (
+        "full64",
+        Target {
+            word_bits: 64,
+            packed: false,
+            steps: ALL_STEPS,
+            locks: MOST_LOCKS,
+            section: false,
+        },
+    ),
+    (
+        "word64",
+        Target {
+            word_bits: 64,
+            packed: true,
+            steps: ALL_STEPS,
+            locks: MOST_LOCKS,
+            section: false,
+        },
+    ),
+    (
+        "word32",
+        Target {
+            word_bits: 32,
+            packed: true,
+            steps: ALL_STEPS,
+            locks: MOST_LOCKS,
+            section: false,
+        },
+    ),
+    (
+        "cas32",
+        Target {
+            word_bits: 32,
+            packed: true,
+            steps: NO_STEPS,
+            locks: MOST_LOCKS,
+            section: false,
+        },
+    ),
+    (
+        "section32",
+        Target {
+            word_bits: 32,
+            packed: false,
+            steps: NO_STEPS,
+            locks: 1,
+            section: true,
+        },
+    ),
+];
 
 /// Whether a section target may have these.
 pub(crate) fn suits_section(packed: bool, steps: StepSet, locks: u32) -> bool
@@ -90,46 +104,45 @@ pub fn target_ok(target: &Target) -> bool
     if target.word_bits != 32 && target.word_bits != 64 {
         return false;
     }
-    if target.locks < 1 || 67 < target.locks {
+    if target.locks < 1 || MOST_LOCKS < target.locks {
         return false;
     }
     !target.section || suits_section(target.packed, target.steps, target.locks)
 }
 
-/// The target with a name. None: it is none of `full64`, `word64`, `word32`, `cas32` and `section32`.
+/// The built-in targets, each with its name.
+pub fn builtins() -> &'static [(&'static str, Target)]
+    ensures { map (λ row. (row.0.now, row.1)) result.now ≡ builtins }
+{
+    &BUILTINS
+}
+
+/// The target with a name. None: it is the name of none of the built-in targets.
 pub fn builtin(name: &[u8]) -> Option<Target>
     ensures { result ≡ builtin_of name.now }
 {
-    if name == b"full64".as_slice() {
-        Some(FULL64)
-    } else if name == b"word64".as_slice() {
-        Some(WORD64)
-    } else if name == b"word32".as_slice() {
-        Some(WORD32)
-    } else if name == b"cas32".as_slice() {
-        Some(CAS32)
-    } else if name == b"section32".as_slice() {
-        Some(SECTION32)
-    } else {
-        None
+    for row in builtins() {
+        if name == row.0.as_bytes() {
+            return Some(row.1);
+        }
     }
+    None
 }
 
-/// The name of a target. None: it is none of the five.
+fn same_target(a: &Target, b: &Target) -> bool
+    ensures { result ≡ same_target a.now b.now }
+{
+    a == b
+}
+
+/// The name of a target. None: it is none of the built-in ones.
 pub(crate) fn name_of(target: &Target) -> Option<&'static str>
     ensures { MatchOption result (name_of target.now ≡ None) (λ name. name_of target.now ≡ Some name.now) }
 {
-    if *target == FULL64 {
-        Some("full64")
-    } else if *target == WORD64 {
-        Some("word64")
-    } else if *target == WORD32 {
-        Some("word32")
-    } else if *target == CAS32 {
-        Some("cas32")
-    } else if *target == SECTION32 {
-        Some("section32")
-    } else {
-        None
+    for row in builtins() {
+        if same_target(target, &row.1) {
+            return Some(row.0);
+        }
     }
+    None
 }

@@ -29,7 +29,7 @@ fn push_description(line: &mut LineBuf, target: &Target)
     push_next(line, section_word(target.section));
 }
 
-/// Adds the text of a target, at most 40 bytes: its name where it is one of the five, else its description.
+/// Adds the text of a target, at most 40 bytes: its name where it is a built-in one, else its description.
 /// `read_target` reads it back.
 #[tactic(auto, using(crate::proofs::Printed::described_short))]
 pub fn push_target(line: &mut LineBuf, target: &Target)

@@ -169,19 +169,12 @@ operands_are kind (call.Store a) is fits has = (value_operand kind a is fits, tt
 operands_are kind (call.Swap a) is fits has = (value_operand kind a is fits, tt)
 operands_are kind (call.Cas e n) is fits has = (value_operand kind e is fits.0, (value_operand kind n is fits.1, tt))
 operands_are kind (call.CasWeak e n) is fits has = (value_operand kind e is fits.0, (value_operand kind n is fits.1, tt))
-operands_are kind (call.Add a q) is fits has = (value_operand kind a is fits.0, tt)
-operands_are kind (call.Sub a q) is fits has = (value_operand kind a is fits.0, tt)
-operands_are kind (call.And a q) is fits has = (value_operand kind a is fits.0, tt)
-operands_are kind (call.Nand a) is fits has = (value_operand kind a is fits.0, tt)
-operands_are kind (call.Or a q) is fits has = (value_operand kind a is fits.0, tt)
-operands_are kind (call.Xor a q) is fits has = (value_operand kind a is fits.0, tt)
-operands_are kind (call.Max a) is fits has = (value_operand kind a is fits.0, tt)
-operands_are kind (call.Min a) is fits has = (value_operand kind a is fits.0, tt)
 operands_are kind (call.Not q) is fits has = tt
 operands_are kind (call.Neg q) is fits has = tt
 operands_are kind (call.BitSet p) is fits has = (position_operand p has, tt)
 operands_are kind (call.BitClear p) is fits has = (position_operand p has, tt)
 operands_are kind (call.BitToggle p) is fits has = (position_operand p has, tt)
+operands_are kind _ is fits has = (value_operand kind _ is fits.0, tt)
 
 operands_read : (os : List Operand) → AllByRecursion IsOperand os → Pairs (λ (o : Operand) text. parsed_value o.kind text ≡ Ok o.value) os (map operand_text os)
 operands_read [] all = tt

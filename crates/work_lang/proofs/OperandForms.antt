@@ -6,7 +6,7 @@ use Rattle.op_table.specs.declared.kind.Kind.{Kind}
 use Rattle.op_table.specs.declared.call.Call.{Call}
 use Rattle.op_table.specs.declared.call.Call.TheVariants as call
 use Rattle.op_table.specs.declared.words.Operation.{Operation}
-use Rattle.op_table.specs.declared.words.Operation.TheVariants.{Load, Store, Swap, CompareExchange, CompareExchangeWeak, FetchAdd, Add, FetchSub, Sub, FetchAnd, And, FetchNand, FetchOr, Or, FetchXor, Xor, FetchMax, FetchMin, FetchNot, Not, FetchNeg, Neg, BitSet, BitClear, BitToggle, FetchByteAdd, FetchByteSub}
+use Rattle.op_table.specs.declared.words.Operation.TheVariants.{Load, Store, Swap, CompareExchange, CompareExchangeWeak, FetchAdd, Add, FetchSub, Sub, FetchAnd, And, FetchOr, Or, FetchXor, Xor, FetchMax, FetchMin, FetchNot, Not, FetchNeg, Neg, BitSet, BitClear, BitToggle, FetchByteAdd, FetchByteSub}
 use Rattle.op_table.specs.Kind.{values_of}
 use Rattle.op_table.specs.Call.{CallFits}
 use Rattle.op_table.specs.Words.{has_operation, loud_or_quiet, sum_operation, operation_of}
@@ -52,7 +52,6 @@ form_makes kind FetchSub has = λ a small. let is = is_int FetchSub kind.class r
 form_makes kind Sub has = λ a small. let is = is_int Sub kind.class refl refl has in (ap (λ (c : Class). sum_operation c true FetchSub Sub FetchByteSub) is, (small, inl is), tt, refl)
 form_makes kind FetchAnd has = λ a small. (refl, (small, λ is. refl), tt, refl)
 form_makes kind And has = λ a small. (refl, (small, λ is. absurd (other_than And kind.class class.Ptr refl has is)), tt, refl)
-form_makes kind FetchNand has = λ a small. (refl, (small, other_than FetchNand kind.class class.Ptr refl has), tt, refl)
 form_makes kind FetchOr has = λ a small. (refl, (small, λ is. refl), tt, refl)
 form_makes kind Or has = λ a small. (refl, (small, λ is. absurd (other_than Or kind.class class.Ptr refl has is)), tt, refl)
 form_makes kind FetchXor has = λ a small. (refl, (small, λ is. refl), tt, refl)
@@ -68,6 +67,7 @@ form_makes kind BitClear has = λ p small. (refl, other_than BitClear kind.class
 form_makes kind BitToggle has = λ p small. (refl, other_than BitToggle kind.class class.Bool refl has, small, refl)
 form_makes kind FetchByteAdd has = λ a small. let is = is_ptr FetchByteAdd kind.class refl refl has in (ap (λ (c : Class). sum_operation c false FetchAdd Add FetchByteAdd) is, (small, inr (is, refl)), tt, refl)
 form_makes kind FetchByteSub has = λ a small. let is = is_ptr FetchByteSub kind.class refl refl has in (ap (λ (c : Class). sum_operation c false FetchSub Sub FetchByteSub) is, (small, inr (is, refl)), tt, refl)
+form_makes kind op has = λ a small. (refl, (small, other_than op kind.class class.Ptr refl has), tt, refl)
 
 -- ---- from calls to operands
 
@@ -101,20 +101,13 @@ alone_gives kind false = ((refl, refl), (refl, refl))
 
 pub call_gives : (kind : Kind) (x : Call) → CallFits kind x → FormGives kind (form_of (operation_of kind x)) x (operands_of kind x)
 call_gives kind call.Load fits = (refl, refl)
-call_gives kind (call.Store a) fits = (a, refl, refl)
-call_gives kind (call.Swap a) fits = (a, refl, refl)
 call_gives kind (call.Cas e n) fits = (e, n, refl, refl)
 call_gives kind (call.CasWeak e n) fits = (e, n, refl, refl)
 call_gives kind (call.Add a q) fits = (sum_gives kind kind.class q a fits.1).0
 call_gives kind (call.Sub a q) fits = (sum_gives kind kind.class q a fits.1).1
 call_gives kind (call.And a q) fits = (logic_gives kind q a).0
-call_gives kind (call.Nand a) fits = (a, refl, refl)
 call_gives kind (call.Or a q) fits = (logic_gives kind q a).1
 call_gives kind (call.Xor a q) fits = (logic_gives kind q a).2
-call_gives kind (call.Max a) fits = (a, refl, refl)
-call_gives kind (call.Min a) fits = (a, refl, refl)
 call_gives kind (call.Not q) fits = (alone_gives kind q).0
 call_gives kind (call.Neg q) fits = (alone_gives kind q).1
-call_gives kind (call.BitSet p) fits = (p, refl, refl)
-call_gives kind (call.BitClear p) fits = (p, refl, refl)
-call_gives kind (call.BitToggle p) fits = (p, refl, refl)
+call_gives kind _ fits = (_, refl, refl)

@@ -3,15 +3,16 @@ use Rattle.std.proofs.Common.{◌≡◌, ℕ, Bool, true, false, cond, List, [],
 use Rattle.std.proofs.lemmas.Bool.{and_parts}
 use Rattle.line_words.specs.Cursor.{Cursor, at_end}
 use Rattle.op_table.specs.declared.call.Call.{Call}
-use Rattle.op_table.specs.declared.call.Call.TheVariants.{Load, Store, Swap, Cas, CasWeak, Add, Sub, And, Nand, Or, Xor, Max, Min, Not, Neg, BitSet, BitClear, BitToggle}
+use Rattle.op_table.specs.declared.call.Call.TheVariants.{Load, Store, Cas, CasWeak}
 use Rattle.op_table.specs.declared.order.Order.{Order}
 use Rattle.op_table.specs.declared.order.Order.TheVariants.{Relaxed, Acquire, Release, AcqRel, SeqCst}
+use Rattle.op_table.specs.CallTests.{is_exchange}
 use Rattle.op_table.specs.Orders.{order_word, order_of_word, is_failure_order, order_fits}
 use Rattle.op_table.proofs.WordTables.{order_word_is_read, order_has_one_word}
 use Rattle.work_lang.specs.declared.fault.Cause.TheVariants as causes
 use Rattle.work_lang.specs.declared.orders.Orders.{Orders}
 use Rattle.work_lang.specs.Slips.{word_at, end_at, need_at, check_at}
-use Rattle.work_lang.specs.CallOrders.{is_exchange, left_out, and_failure, is_seq_cst, are_seq_cst}
+use Rattle.work_lang.specs.CallOrders.{left_out, and_failure, is_seq_cst, are_seq_cst}
 use Rattle.work_lang.specs.Reading.{order_at, one_order_at, two_orders_at, orders_at}
 use Rattle.work_lang.specs.Spelling.{AreOrders}
 use Rattle.work_lang.proofs.Steps.{check_then, word_then, end_then, need_then, bind_then, chosen, ok_is, no_words}
@@ -32,43 +33,14 @@ some_is (Some x) e = refl
 exchange_is : (x : Call) (s : Order) (f : Option Order) → order_fits x s f ≡ true → is_exchange x ≡ is_some f
 exchange_is Load s f e = none_is f (and_parts _ _ e).1
 exchange_is (Store a) s f e = none_is f (and_parts _ _ e).1
-exchange_is (Swap a) s f e = none_is f e
 exchange_is (Cas a b) s f e = some_is f e
 exchange_is (CasWeak a b) s f e = some_is f e
-exchange_is (Add a q) s f e = none_is f e
-exchange_is (Sub a q) s f e = none_is f e
-exchange_is (And a q) s f e = none_is f e
-exchange_is (Nand a) s f e = none_is f e
-exchange_is (Or a q) s f e = none_is f e
-exchange_is (Xor a q) s f e = none_is f e
-exchange_is (Max a) s f e = none_is f e
-exchange_is (Min a) s f e = none_is f e
-exchange_is (Not q) s f e = none_is f e
-exchange_is (Neg q) s f e = none_is f e
-exchange_is (BitSet p) s f e = none_is f e
-exchange_is (BitClear p) s f e = none_is f e
-exchange_is (BitToggle p) s f e = none_is f e
+exchange_is _ s f e = none_is f e
 
 -- every call accepts sequential consistency
 left_out_fits : (x : Call) → order_fits x (left_out x).success (left_out x).failure ≡ true
 left_out_fits Load = refl
-left_out_fits (Store a) = refl
-left_out_fits (Swap a) = refl
-left_out_fits (Cas a b) = refl
-left_out_fits (CasWeak a b) = refl
-left_out_fits (Add a q) = refl
-left_out_fits (Sub a q) = refl
-left_out_fits (And a q) = refl
-left_out_fits (Nand a) = refl
-left_out_fits (Or a q) = refl
-left_out_fits (Xor a q) = refl
-left_out_fits (Max a) = refl
-left_out_fits (Min a) = refl
-left_out_fits (Not q) = refl
-left_out_fits (Neg q) = refl
-left_out_fits (BitSet p) = refl
-left_out_fits (BitClear p) = refl
-left_out_fits (BitToggle p) = refl
+left_out_fits _ = refl
 
 left_out_seq_cst : (exchange : Bool) → are_seq_cst (SeqCst ∷ and_failure (cond exchange (Some SeqCst) None)) ≡ true
 left_out_seq_cst true = refl

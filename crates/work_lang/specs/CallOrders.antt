@@ -2,17 +2,11 @@
 use Rattle.std.specs.Prelude.{Bool, true, false, List, [], ◌∷◌, Option, Some, None, if◌then◌else◌}
 use Rattle.std.specs.List.{list_all}
 use Rattle.op_table.specs.declared.call.Call.{Call}
-use Rattle.op_table.specs.declared.call.Call.TheVariants as call
 use Rattle.op_table.specs.declared.order.Order.{Order}
 use Rattle.op_table.specs.declared.order.Order.TheVariants.{Relaxed, Acquire, Release, AcqRel, SeqCst}
+use Rattle.op_table.specs.CallTests.{is_exchange}
 use Rattle.place_core.specs.declared.script.Line.{Line}
 use Rattle.work_lang.specs.declared.orders.Orders.{Orders}
-
--- a compare and exchange, the only call with a failure order
-abbrev pub is_exchange : Call → Bool
-is_exchange (call.Cas e n) = true
-is_exchange (call.CasWeak e n) = true
-is_exchange _ = false
 
 -- orders that are left out are sequentially consistent
 abbrev pub left_out : Call → Orders

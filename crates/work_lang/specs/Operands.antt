@@ -86,6 +86,16 @@ values_in (WithValue f) e n = None
 values_in (WithPosition f) e n = None
 values_in (WithValues f) e n = Some (f e n)
 
+-- the call that a form makes where its operands are 0
+abbrev pub zero_in : Form → Call
+zero_in (Alone x) = x
+zero_in (WithValue f) = f 0
+zero_in (WithPosition f) = f 0
+zero_in (WithValues f) = f 0 0
+
+abbrev pub zero_call : Operation → Call
+zero_call op = zero_in (form_of op)
+
 -- ---- of calls
 
 -- positions of bits are read and printed as values of u32

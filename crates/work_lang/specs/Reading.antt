@@ -7,6 +7,7 @@ use Rattle.std.specs.Option.{is_some}
 use Rattle.line_words.specs.Text.{words_of, lines_of}
 use Rattle.line_words.specs.Cursor.{Cursor, at_end}
 use Rattle.line_words.specs.Steps.{◌>>=◌}
+use Rattle.op_table.specs.CallTests.{is_exchange}
 use Rattle.op_table.specs.declared.kind.Kind.{Kind}
 use Rattle.op_table.specs.declared.kind.Width.TheVariants.{W1}
 use Rattle.op_table.specs.declared.kind.Class.TheVariants as class
@@ -35,7 +36,7 @@ use Rattle.work_lang.specs.declared.item.Awaits.{Awaits}
 use Rattle.work_lang.specs.declared.item.Awaits.TheVariants as awaits
 use Rattle.work_lang.specs.declared.orders.Orders.{Orders}
 use Rattle.work_lang.specs.Operands.{Form, Alone, WithValue, WithPosition, WithValues, form_of, position_kind}
-use Rattle.work_lang.specs.CallOrders.{is_exchange, left_out}
+use Rattle.work_lang.specs.CallOrders.{left_out}
 use Rattle.work_lang.specs.Limits.{most_bytes, most_objects, most_threads, most_calls, most_calls_in_all}
 use Rattle.work_lang.specs.Slips.{slip, word_at, end_at, need_at, check_at, value_at}
 use Rattle.work_lang.specs.Workload.{Workload, object_of}

@@ -19,6 +19,7 @@ mod work;
 pub use canonical::{print_work, write_target};
 pub use fault::{Cause, WorkFault};
 pub use memory::{MemSink, MemSource, SureSink, SureSource};
+pub use operands::zero_call;
 pub use print::push_call;
 pub use reader::read_work;
 pub use stream::{Failed, ReadEnd, Sink, Source, WriteEnd, read_all, write_all};

@@ -4,7 +4,7 @@ ghost use Rattle.std.specs.Prelude.{◌≡◌, Some};
 ghost use Rattle.line_words.specs.Steps.{Steps};
 ghost use Rattle.op_table.specs.Kind.{IsKind};
 ghost use Rattle.op_table.specs.Value.{parsed_value};
-ghost use Rattle.work_lang.specs.Operands.{form_of, arity_of, alone_in, value_in, position_in, values_in, position_kind, operands_in};
+ghost use Rattle.work_lang.specs.Operands.{form_of, arity_of, alone_in, value_in, position_in, values_in, zero_call, position_kind, operands_in};
 ghost use Rattle.work_lang.specs.declared.operands.Arity.TheVariants as arities;
 ghost use Rattle.work_lang.specs.Reading.{number_at, operands_at};
 
@@ -118,6 +118,18 @@ fn with_values(operation: Operation, expected: u128, new: u128) -> Call
         Operation::CompareExchange => Call::Cas(expected, new),
         Operation::CompareExchangeWeak => Call::CasWeak(expected, new),
         _ => unreachable!(),
+    }
+}
+
+/// The call of an operation whose operands are 0.
+pub fn zero_call(operation: Operation) -> Call
+    ensures { result ≡ zero_call operation }
+{
+    match arity_of(operation) {
+        Arity::None => alone(operation),
+        Arity::Value => with_value(operation, 0),
+        Arity::Position => with_position(operation, 0),
+        Arity::Values => with_values(operation, 0, 0),
     }
 }
 

@@ -2,13 +2,13 @@
 
 ghost use Rattle.std.specs.Prelude.{◌≡◌};
 ghost use Rattle.line_words.specs.Steps.{Gives, Steps};
-ghost use Rattle.work_lang.specs.CallOrders.{is_exchange, left_out, is_seq_cst, are_seq_cst, orders_of};
+ghost use Rattle.work_lang.specs.CallOrders.{left_out, is_seq_cst, are_seq_cst, orders_of};
 ghost use Rattle.work_lang.specs.Reading.{order_at, one_order_at, two_orders_at, orders_at};
 
 use crate::fault::{Cause, Slip};
 use crate::words::{check, end, need, word};
 use line_words::Words;
-use op_table::{Call, Order, order_fits, order_of_word};
+use op_table::{Call, Order, is_exchange, order_fits, order_of_word};
 use place_core::Line;
 
 /// The orders of a call. Only an exchange has a failure order.
@@ -16,12 +16,6 @@ use place_core::Line;
 pub struct Orders {
     pub success: Order,
     pub failure: Option<Order>,
-}
-
-fn is_exchange(call: &Call) -> bool
-    ensures { result ≡ is_exchange call.now }
-{
-    matches!(call, Call::Cas(_, _) | Call::CasWeak(_, _))
 }
 
 /// The orders of a line that has none.
