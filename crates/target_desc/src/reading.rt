@@ -115,7 +115,7 @@ fn target_after(taken: u32, text: &[u8]) -> Result<Target, TargetFault>
 
 /// The target that the words from a cursor on name or describe. The cursor stays.
 pub fn target_at(words: &Words<'_>) -> Result<Target, TargetFault>
-    ensures { Gives (λ x. x) result (target_at words.now) }
+    ensures { Gives (λ x. x) result (target_at words.now.cursor) }
 {
     target_after(words.taken(), words.rest())
 }

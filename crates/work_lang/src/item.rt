@@ -41,7 +41,7 @@ pub enum Awaits {
 /// The line of the version, `work 1`.
 #[tactic(auto, unfolding(crate::specs::Reading::version_at))]
 pub fn version_item(first: &[u8], words: &mut Words<'_>) -> Result<Item, Slip>
-    ensures { Gives (λ x. x) result (version_at first.now words.old) }
+    ensures { Gives (λ x. x) result (version_at first.now words.old.cursor) }
 {
     check(words, Cause::Version, first == b"work".as_slice())?;
     let version = word(words)?;
@@ -52,7 +52,7 @@ pub fn version_item(first: &[u8], words: &mut Words<'_>) -> Result<Item, Slip>
 
 /// A target by its name or its description, which all further words are.
 fn described(words: &Words<'_>) -> Result<Target, Slip>
-    ensures { Gives (λ x. x) result (described_at words.now) }
+    ensures { Gives (λ x. x) result (described_at words.now.cursor) }
 {
     match target_at(words) {
         Ok(target) => Ok(target),
@@ -74,7 +74,7 @@ fn described(words: &Words<'_>) -> Result<Target, Slip>
 /// The line of the target.
 #[tactic(auto, unfolding(crate::specs::Reading::target_line_at))]
 pub fn target_item(first: &[u8], words: &mut Words<'_>) -> Result<Item, Slip>
-    ensures { Gives (λ x. x) result (target_line_at first.now words.old) }
+    ensures { Gives (λ x. x) result (target_line_at first.now words.old.cursor) }
 {
     check(words, Cause::UnknownWord, first == b"target".as_slice())?;
     Ok(Item::Target(described(words)?))
@@ -83,7 +83,7 @@ pub fn target_item(first: &[u8], words: &mut Words<'_>) -> Result<Item, Slip>
 /// An `object` line, after its first word.
 #[tactic(auto, unfolding(crate::specs::Reading::object_at))]
 pub fn object_item(objects: &Objects, words: &mut Words<'_>) -> Result<Item, Slip>
-    ensures { Gives (λ x. x) result (object_at objects.now words.old) }
+    ensures { Gives (λ x. x) result (object_at objects.now words.old.cursor) }
 {
     check(words, Cause::Limit, objects.len() < MOST_OBJECTS)?;
     let text = word(words)?;
@@ -100,7 +100,7 @@ pub fn object_item(objects: &Objects, words: &mut Words<'_>) -> Result<Item, Sli
 /// A `thread` line, after its first word, where so many threads stand.
 #[tactic(auto, unfolding(crate::specs::Reading::thread_at))]
 pub fn thread_item(threads: usize, words: &mut Words<'_>) -> Result<Item, Slip>
-    ensures { Gives (λ x. x) result (thread_at threads words.old) }
+    ensures { Gives (λ x. x) result (thread_at threads words.old.cursor) }
 {
     check(words, Cause::Limit, threads < MOST_THREADS)?;
     end(words)?;
@@ -111,7 +111,7 @@ pub fn thread_item(threads: usize, words: &mut Words<'_>) -> Result<Item, Slip>
 #[tactic(auto, unfolding(crate::specs::Reading::operation_at))]
 fn operation_item(kind: Kind, first: &[u8], words: &mut Words<'_>) -> Result<Call, Slip>
     requires { IsKind kind }
-    ensures { Steps (λ x. x) result words.new (operation_at kind first.now words.old) }
+    ensures { Steps (λ x. x) result words.new.cursor (operation_at kind first.now words.old.cursor) }
 {
     let operation = need(words, Cause::UnknownWord, operation_of_word(first))?;
     check(
@@ -131,7 +131,7 @@ pub fn call_item(
     first: &[u8],
     words: &mut Words<'_>,
 ) -> Result<Item, Slip>
-    ensures { Gives (λ x. x) result (call_at objects.now calls all first.now words.old) }
+    ensures { Gives (λ x. x) result (call_at objects.now calls all first.now words.old.cursor) }
 {
     let object = need(words, Cause::UnknownName, objects.find(first))?;
     check(

@@ -137,7 +137,7 @@ pub fn zero_call(operation: Operation) -> Call
 #[tactic(auto, unfolding(crate::specs::Reading::number_at))]
 fn number(kind: Kind, words: &mut Words<'_>) -> Result<u128, Slip>
     requires { IsKind kind }
-    ensures { Steps (λ x. x) result words.new (number_at kind words.old) }
+    ensures { Steps (λ x. x) result words.new.cursor (number_at kind words.old.cursor) }
 {
     let text = word(words)?;
     let n = value(words, read_value(kind, text))?;
@@ -156,7 +156,7 @@ fn read_position(text: &[u8]) -> Result<u32, ValueFault>
 /// The position of a bit, as the next word.
 #[tactic(auto, unfolding(crate::specs::Reading::number_at))]
 fn position(words: &mut Words<'_>) -> Result<u32, Slip>
-    ensures { Steps (λ x. x) result words.new (number_at position_kind words.old) }
+    ensures { Steps (λ x. x) result words.new.cursor (number_at position_kind words.old.cursor) }
 {
     let text = word(words)?;
     let p = value(words, read_position(text))?;
@@ -166,7 +166,7 @@ fn position(words: &mut Words<'_>) -> Result<u32, Slip>
 /// The call of an operation, with the operands that follow.
 pub fn read_operands(kind: Kind, operation: Operation, words: &mut Words<'_>) -> Result<Call, Slip>
     requires { IsKind kind }
-    ensures { Steps (λ x. x) result words.new (operands_at kind (form_of operation) words.old) }
+    ensures { Steps (λ x. x) result words.new.cursor (operands_at kind (form_of operation) words.old.cursor) }
 {
     match arity_of(operation) {
         Arity::None => Ok(alone(operation)),

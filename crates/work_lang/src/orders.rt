@@ -35,7 +35,7 @@ fn left_out(call: &Call) -> Orders
 /// The order that the next word is.
 #[tactic(auto, unfolding(crate::specs::Reading::order_at))]
 fn order(words: &mut Words<'_>) -> Result<Order, Slip>
-    ensures { Steps (λ x. x) result words.new (order_at words.old) }
+    ensures { Steps (λ x. x) result words.new.cursor (order_at words.old.cursor) }
 {
     let text = word(words)?;
     let order = need(words, Cause::Extra, order_of_word(text))?;
@@ -45,7 +45,7 @@ fn order(words: &mut Words<'_>) -> Result<Order, Slip>
 /// The order of a call that isn't an exchange.
 #[tactic(auto, unfolding(crate::specs::Reading::one_order_at))]
 fn one_order(call: &Call, words: &mut Words<'_>) -> Result<Orders, Slip>
-    ensures { Gives (λ x. x) result (one_order_at call.now words.old) }
+    ensures { Gives (λ x. x) result (one_order_at call.now words.old.cursor) }
 {
     let success = order(words)?;
     check(words, Cause::BadOrder, order_fits(call, success, None))?;
@@ -59,7 +59,7 @@ fn one_order(call: &Call, words: &mut Words<'_>) -> Result<Orders, Slip>
 /// The orders of an exchange.
 #[tactic(auto, unfolding(crate::specs::Reading::two_orders_at))]
 fn two_orders(call: &Call, words: &mut Words<'_>) -> Result<Orders, Slip>
-    ensures { Gives (λ x. x) result (two_orders_at call.now words.old) }
+    ensures { Gives (λ x. x) result (two_orders_at call.now words.old.cursor) }
 {
     let success = order(words)?;
     let failure = order(words)?;
@@ -78,7 +78,7 @@ fn two_orders(call: &Call, words: &mut Words<'_>) -> Result<Orders, Slip>
 /// The orders of a call, which may be left out.
 #[tactic(auto, unfolding(crate::specs::Reading::orders_at))]
 pub fn read_orders(call: &Call, words: &mut Words<'_>) -> Result<Orders, Slip>
-    ensures { Gives (λ x. x) result (orders_at call.now words.old) }
+    ensures { Gives (λ x. x) result (orders_at call.now words.old.cursor) }
 {
     if words.is_end() {
         Ok(left_out(call))

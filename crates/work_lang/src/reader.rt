@@ -102,7 +102,7 @@ impl Reader {
     /// An object or the first thread.
     #[tactic(auto, unfolding(crate::specs::Reading::first_thread_at))]
     fn first_thread_item(&self, word: &[u8], words: &mut Words<'_>) -> Result<Item, Slip>
-        ensures { Gives (λ x. x) result (first_thread_at self.now word.now words.old) }
+        ensures { Gives (λ x. x) result (first_thread_at self.now word.now words.old.cursor) }
     {
         if word == b"object".as_slice() {
             item::object_item(&self.objects, words)
@@ -116,7 +116,7 @@ impl Reader {
     /// A thread after the first.
     #[tactic(auto, unfolding(crate::specs::Reading::next_thread_at))]
     fn next_thread_item(&self, word: &[u8], words: &mut Words<'_>) -> Result<Item, Slip>
-        ensures { Gives (λ x. x) result (next_thread_at self.now word.now words.old) }
+        ensures { Gives (λ x. x) result (next_thread_at self.now word.now words.old.cursor) }
     {
         if word == b"thread".as_slice() {
             item::thread_item(self.threads.len(), words)
@@ -128,7 +128,7 @@ impl Reader {
     /// A call or the end of the thread.
     #[tactic(auto, unfolding(crate::specs::Reading::in_thread_at))]
     fn in_thread_item(&self, word: &[u8], words: &mut Words<'_>) -> Result<Item, Slip>
-        ensures { Gives (λ x. x) result (in_thread_at self.now word.now words.old) }
+        ensures { Gives (λ x. x) result (in_thread_at self.now word.now words.old.cursor) }
     {
         if word == b"end".as_slice() {
             end(words)?;
@@ -141,7 +141,7 @@ impl Reader {
     /// What a line says, by its first word and the others.
     #[tactic(auto, unfolding(crate::specs::Reading::item_at))]
     fn item(&self, word: &[u8], words: &mut Words<'_>) -> Result<Item, Slip>
-        ensures { Gives (λ x. x) result (item_at self.now word.now words.old) }
+        ensures { Gives (λ x. x) result (item_at self.now word.now words.old.cursor) }
     {
         match self.awaits {
             Awaits::Version => item::version_item(word, words),

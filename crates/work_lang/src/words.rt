@@ -11,7 +11,7 @@ use op_table::ValueFault;
 /// The next word.
 #[tactic(auto, unfolding(crate::specs::Slips::word_at))]
 pub fn word<'a>(words: &mut Words<'a>) -> Result<&'a [u8], Slip>
-    ensures { Steps (λ w. w.now) result words.new (word_at words.old) }
+    ensures { Steps (λ w. w.now) result words.new.cursor (word_at words.old.cursor) }
 {
     match words.next() {
         Some(word) => Ok(word),
@@ -25,7 +25,7 @@ pub fn word<'a>(words: &mut Words<'a>) -> Result<&'a [u8], Slip>
 /// No further word.
 #[tactic(auto, unfolding(crate::specs::Slips::end_at))]
 pub fn end(words: &Words<'_>) -> Result<(), Slip>
-    ensures { Gives (λ x. x) result (end_at words.now) }
+    ensures { Gives (λ x. x) result (end_at words.now.cursor) }
 {
     if words.is_end() {
         Ok(())
@@ -40,7 +40,7 @@ pub fn end(words: &Words<'_>) -> Result<(), Slip>
 /// What the last word must be.
 #[tactic(auto, unfolding(crate::specs::Slips::need_at))]
 pub fn need<T>(words: &Words<'_>, cause: Cause, found: Option<T>) -> Result<T, Slip>
-    ensures { Gives (λ x. x) result (need_at words.now cause found) }
+    ensures { Gives (λ x. x) result (need_at words.now.cursor cause found) }
 {
     match found {
         Some(x) => Ok(x),
@@ -51,7 +51,7 @@ pub fn need<T>(words: &Words<'_>, cause: Cause, found: Option<T>) -> Result<T, S
 /// The value that the last word must spell.
 #[tactic(auto, unfolding(crate::specs::Slips::value_at))]
 pub fn value<T>(words: &Words<'_>, found: Result<T, ValueFault>) -> Result<T, Slip>
-    ensures { Gives (λ x. x) result (value_at words.now found) }
+    ensures { Gives (λ x. x) result (value_at words.now.cursor found) }
 {
     match found {
         Ok(x) => Ok(x),
@@ -63,14 +63,14 @@ pub fn value<T>(words: &Words<'_>, found: Result<T, ValueFault>) -> Result<T, Sl
 /// What must hold at the last word.
 #[tactic(auto, unfolding(crate::specs::Slips::check_at))]
 pub fn check(words: &Words<'_>, cause: Cause, holds: bool) -> Result<(), Slip>
-    ensures { Gives (λ x. x) result (check_at words.now cause holds) }
+    ensures { Gives (λ x. x) result (check_at words.now.cursor cause holds) }
 {
     if holds { Ok(()) } else { fail(words, cause) }
 }
 
 /// The fault at the last word.
 pub fn fail<T>(words: &Words<'_>, cause: Cause) -> Result<T, Slip>
-    ensures { result ≡ slip words.now.taken cause }
+    ensures { result ≡ slip words.now.cursor.taken cause }
 {
     Err(Slip {
         word: words.taken(),
