@@ -106,12 +106,7 @@ pub(crate) fn turns<R: Wait>(
 }
 
 /// Loads the last values of the three objects.
-pub(crate) fn last<R: Wait>(
-    rt: &R,
-    arena: &Arena,
-    on: &Shared,
-    pass: &mut Pass,
-) -> (u64, u8, u128)
+pub(crate) fn last<R: Wait>(rt: &R, arena: &Arena, on: &Shared, pass: &mut Pass) -> (u64, u8, u128)
     requires { AreOn arena.now.shape on.now × IsReady arena.now pass.old }
 {
     let wide = on.wide.load(rt, arena, pass, LoadOrder::SeqCst);

@@ -82,12 +82,14 @@ module _ (S : Shape) (first : ℕ) (log : List Entry) (locks : ℕ → Lock) (wo
 
   -- where no lock and no part changed
   module _ (log' : List Entry) (words' : List ℕ) (same : SameInParts S log log' words words') (views' : List View) (f : Flights S log locks words views') where
-    pub parts_frame : ((l : ℕ) → l < S.locks → slice_index words' (lock_word S l) ≡ slice_index words (lock_word S l)) → ((l : ℕ) → entries_under S l log ≤ entries_under S l log') → Parts S first log' locks words' views'
+    pub parts_frame : ((l : ℕ) → l < S.locks → slice_index words' (lock_word S l) ≡ slice_index words (lock_word S l))
+        → ((l : ℕ) → entries_under S l log ≤ entries_under S l log') → Parts S first log' locks words' views'
     parts_frame lock_same more = record {
       locked = λ l lt. lock_same l lt ∙ p.locked l lt;
       even = p.even;
       from_first = p.from_first;
-      upto_first = λ l lt. upto_more (locks l).stamp first (entries_under S l log) (entries_under S l log') (p.upto_first l lt) (more l);
+      upto_first = λ l lt. upto_more (locks l).stamp first (entries_under S l log) (entries_under S l log')
+          (p.upto_first l lt) (more l);
       clean = p.clean;
       holders = f.holders;
       small = λ o l h n b i at lt. let e = same o l h n b at in subst (λ (z : ℕ). z < 2 ^ b) (sym (e.0 i lt)) (p.small o l h n b i at lt);

@@ -49,7 +49,8 @@ stamp_keeps k ok a l f n b place slots id m rest first_is s r _ at small =
     let old = r.parts in
     let locked : q ≡ shown (r.locks l) = old.locked l within.0 in
     let none : (f : Flight) → (z : ℕ) → HoldsUnder S z v.flight → HoldsUnder S z f = λ f z u. absurd (subst (HoldsUnder S z) rest u) in
-    let told : q ≢ 1 → StampTold a v q = λ not_held _ pass. subst (λ (z : ℕ). IsStampIn v.shape (lock_in (place_of v.shape o)) z v.number v.given v.seen q) (sym first_is)
+    let told : q ≢ 1 → StampTold a v q = λ not_held _ pass.
+    subst (λ (z : ℕ). IsStampIn v.shape (lock_in (place_of v.shape o)) z v.number v.given v.seen q) (sym first_is)
     (stamp_there k s r id v at pass o l f n b q place within.0 (free_of (r.locks l) q locked not_held).1) in
     dite (ℕ_discrete q 1)
     (λ held. (

@@ -112,7 +112,8 @@ take_keeps k ok a l f n b place slots id m rest first_is s r _ at _ =
           even = each_lock (λ i z. i < S.locks → z.stamp % 2 ≡ 0) r.locks l c (λ _. even) (λ i _ lt. old.even i lt);
           from_first = each_lock (λ i z. i < S.locks → k.first_stamp ≤ z.stamp) r.locks l c (λ lt. subst (λ (z : ℕ). k.first_stamp ≤ z) (sym free.1) (old.from_first l lt)) (λ i _ lt. old.from_first i lt);
           upto_first = each_lock (λ i z. i < S.locks → z.stamp ≤ k.first_stamp + 2 * entries_under S i r.log) r.locks l c
-              (λ lt. subst (λ (z : ℕ). z ≤ k.first_stamp + 2 * entries_under S l r.log) (sym free.1) (old.upto_first l lt)) (λ i _ lt. old.upto_first i lt);
+              (λ lt. subst (λ (z : ℕ). z ≤ k.first_stamp + 2 * entries_under S l r.log) (sym free.1) (old.upto_first l lt))
+              (λ i _ lt. old.upto_first i lt);
           clean = each_lock (λ i z. z.holder ≡ None → z.dirty ≡ false) r.locks l c (λ _. refl) (λ i _ e. old.clean i e);
           holders = each_lock (λ i z. (j : ℕ) → z.holder ≡ Some j → IsHolder S i (set s.views id w) j) r.locks l c
               (λ j e. let is : id ≡ j = cc (e) in record { view = w; there = subst (λ (z : ℕ). get_elem? (set s.views id w) z ≡ some w) is (set_own s.views id w v at); under = (f, n, b, place) })
@@ -141,7 +142,8 @@ take_keeps k ok a l f n b place slots id m rest first_is s r _ at _ =
         refl,
         ap (λ (c : Bool). moved v it (if c then Idle else fl)) (sym (ne_eqb q 1 not_held)),
         (λ _. even),
-        λ _ pass. subst (λ (z : ℕ). IsStampIn v.shape (lock_in (place_of v.shape o)) z v.number v.given v.seen q) (sym first_is) (stamp_there k s r id v at pass o l f n b q place within.0 free.1),
+        λ _ pass. subst (λ (z : ℕ). IsStampIn v.shape (lock_in (place_of v.shape o)) z v.number v.given v.seen q) (sym first_is)
+            (stamp_there k s r id v at pass o l f n b q place within.0 free.1),
       ),
     ))
 
@@ -266,7 +268,8 @@ put_keeps k ok a o l f n b place inside st read wrote now all x slots id m fits_
           locked = λ j lt. get_or-set_other s.words word (lock_word S j) x 0 (λ e. omega arith) ∙ (old.locked j lt ∙ sym (shows j));
           even = λ j lt. ap (λ (z : ℕ). z % 2) (stamps j) ∙ old.even j lt;
           from_first = λ j lt. subst (λ (z : ℕ). k.first_stamp ≤ z) (sym (stamps j)) (old.from_first j lt);
-          upto_first = λ j lt. subst (λ (z : ℕ). z ≤ k.first_stamp + 2 * entries_under S j r.log) (sym (stamps j)) (old.upto_first j lt);
+          upto_first = λ j lt. subst (λ (z : ℕ). z ≤ k.first_stamp + 2 * entries_under S j r.log) (sym (stamps j))
+              (old.upto_first j lt);
           clean = each_lock (λ j z. z.holder ≡ None → z.dirty ≡ false) r.locks l c (λ e. absurd (cc (e))) (λ j _ e. old.clean j e);
           holders = each_lock (λ j z. (d : ℕ) → z.holder ≡ Some d → IsHolder S j (set s.views id w) d) r.locks l c
               (λ d e. holder_set S l s.views id v w at (still l) d (old.holders l d (held ∙ e)))
@@ -367,8 +370,10 @@ release_keeps k ok o l f n b place call st read wrote now all fits becomes slots
           even = each_lock (λ i z. i < S.locks → z.stamp % 2 ≡ 0) r.locks l c (λ lt. released_even wrote st (ap (λ (z : ℕ). z % 2) (sym stamp_is) ∙ old.even l lt)) (λ i _ lt. old.even i lt);
           from_first = each_lock (λ i z. i < S.locks → k.first_stamp ≤ z.stamp) r.locks l c (λ _. up_first) (λ i _ lt. old.from_first i lt);
           upto_first = each_lock (λ i z. i < S.locks → z.stamp ≤ k.first_stamp + 2 * entries_under S i log') r.locks l c
-              (λ lt. subst (λ (z : ℕ). q ≤ k.first_stamp + 2 * z) (sym (under_own S l r.log x f n b place)) (upto_one q st (r.locks l).stamp k.first_stamp (entries_under S l r.log) (released_near wrote st) stamp_is (old.upto_first l lt)))
-              (λ i _ lt. upto_more (r.locks i).stamp k.first_stamp (entries_under S i r.log) (entries_under S i log') (old.upto_first i lt) (under_more S r.log (x ∷ []) i));
+              (λ lt. subst (λ (z : ℕ). q ≤ k.first_stamp + 2 * z) (sym (under_own S l r.log x f n b place))
+              (upto_one q st (r.locks l).stamp k.first_stamp (entries_under S l r.log) (released_near wrote st) stamp_is (old.upto_first l lt)))
+              (λ i _ lt. upto_more (r.locks i).stamp k.first_stamp (entries_under S i r.log) (entries_under S i log')
+              (old.upto_first i lt) (under_more S r.log (x ∷ []) i));
           clean = each_lock (λ i z. z.holder ≡ None → z.dirty ≡ false) r.locks l c (λ _. refl) (λ i _ e. old.clean i e);
           holders = each_lock (λ i z. (j : ℕ) → z.holder ≡ Some j → IsHolder S i (set s.views id w) j) r.locks l c
               (λ j e. absurd (cc (e)))

@@ -49,18 +49,24 @@ module _ (a : ArenaState) (o : ℕ) (two : HasTwoParts a.shape o) where
 
   -- ---- a lock taken
 
-  -- a root that takes a lock at once finds the stamp that the arena was opened with
-  pub finds_first : (first : ℕ) (p q : PassState) (b : Bool) → Opens a.shape first a p → TakesLock a.shape o a.first_stamp p b q → MatchBool b (q.flight ≡ Hold o first [] false []) (q.flight ≡ Idle)
-  finds_first first p q false opens t = flight_of p q _ _ t.moved ∙ ap (λ (b : Bool). if b then Idle else Hold o t.found [] false []) (eq-eqb t.found 1 t.won_is)
+  -- where a root gets a lock at once, it finds the stamp that the arena was opened with
+  pub finds_first : (first : ℕ) (p q : PassState) (b : Bool) → Opens a.shape first a p → TakesLock a.shape o a.first_stamp p b q
+      → MatchBool b (q.flight ≡ Hold o first [] false []) (q.flight ≡ Idle)
+  finds_first first p q false opens t = flight_of p q _ _ t.moved
+      ∙ ap (λ (b : Bool). if b then Idle else Hold o t.found [] false []) (eq-eqb t.found 1 t.won_is)
   finds_first first p q true opens t =
       let s = t.stamp t.won_is in
       let l : ℕ = lock_in (place_of a.shape o) in
-      let alone : s.between ≡ [] = s.alone (ap (λ (x : PassState). x.number) opens.root) (ap (λ (x : PassState). x.given) opens.root) in
+      let alone : s.between ≡ [] =
+      s.alone (ap (λ (x : PassState). x.number) opens.root) (ap (λ (x : PassState). x.given) opens.root) in
       let none : p.seen ++ s.between ≡ [] = (λ i. (let x : PassState = opens.root i in x.seen ++ alone i)) in
-      let most : t.found ≤ a.first_stamp + 2 * 0 = subst (λ (z : ℕ). t.found ≤ a.first_stamp + 2 * z) (ap (entries_under a.shape l) none ∙ under_none a.shape l) s.most in
+      let count : entries_under a.shape l (p.seen ++ s.between) ≡ 0 = ap (entries_under a.shape l) none ∙ under_none a.shape l in
+      let most : t.found ≤ a.first_stamp + 2 * 0 = subst (λ (z : ℕ). t.found ≤ a.first_stamp + 2 * z) count s.most in
       let least : a.first_stamp ≤ t.found = s.least in
       let same : t.found ≡ a.first_stamp = omega arith in
-      flight_of p q _ _ t.moved ∙ (ap (λ (b : Bool). if b then Idle else Hold o t.found [] false []) (ne_eqb t.found 1 t.won_is) ∙ ap (λ (z : ℕ). Hold o z [] false []) (same ∙ opens.first_stamp))
+      flight_of p q _ _ t.moved
+      ∙ (ap (λ (b : Bool). if b then Idle else Hold o t.found [] false []) (ne_eqb t.found 1 t.won_is)
+      ∙ ap (λ (z : ℕ). Hold o z [] false []) (same ∙ opens.first_stamp))
 
   pub takes : (p q : PassState) (b : Bool) → IsReady a p → TakesLock a.shape o a.first_stamp p b q → MatchBool b (IsTaken a o q) (IsReady a q)
   takes p q true r t = record { of = moved_of p q _ _ r.of t.moved; stamp = t.found; flight = flight_of p q _ _ t.moved ∙ ap (λ (b : Bool). if b then Idle else Hold o t.found [] false []) (ne_eqb t.found 1 t.won_is) }

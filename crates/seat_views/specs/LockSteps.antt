@@ -128,11 +128,13 @@ Told = Step (Unit {0}) → Me (Unit {0}) View → ℕ → Me (Unit {0}) View →
 
 -- a number other than 1 that is found in a pass's step is a stamp of the object's lock; the first is the one asked with
 abbrev pub StampTold : Asked → View → ℕ → Type 0
-StampTold a v n = n ≢ 1 → v.role ≡ role.Pass → IsStampIn v.shape (lock_in (place_of v.shape a.object)) a.stamp v.number v.given v.seen n
+StampTold a v n = n ≢ 1 → v.role ≡ role.Pass
+    → IsStampIn v.shape (lock_in (place_of v.shape a.object)) a.stamp v.number v.given v.seen n
 
 -- a number other than 1 that a take finds is even
 abbrev pub take_tells : Asked → ℕ → Me (Unit {0}) View → ℕ → Me (Unit {0}) View → Type 0
-take_tells a word m n w = (w.1 ≡ m.1) × (w.0 ≡ moved m.0 (item word kind.Take n) (taken_flight a.object n)) × (n ≢ 1 → n % 2 ≡ 0) × StampTold a m.0 n
+take_tells a word m n w = (w.1 ≡ m.1) × (w.0 ≡ moved m.0 (item word kind.Take n) (taken_flight a.object n))
+    × (n ≢ 1 → n % 2 ≡ 0) × StampTold a m.0 n
 
 -- a part is a number of a part's bits
 abbrev pub read_tells : StepKind → Asked → ℕ → Me (Unit {0}) View → ℕ → Me (Unit {0}) View → Type 0
@@ -148,11 +150,13 @@ put_tells a word m n w = (w.1 ≡ m.1) × (w.0 ≡ moved m.0 (item word kind.Put
 
 -- the value that was read is the object's before the entry, and one of the kind
 abbrev pub release_tells : Asked → ℕ → Me (Unit {0}) View → ℕ → Me (Unit {0}) View → Type 0
-release_tells a word m n w = (w.1 ≡ m.1) × GrowsFrom m.0 (entry m.0.number a.object a.call (answer_of a.kind a.call a.value)) (item word kind.Release n) a.value w.0
+release_tells a word m n w = (w.1 ≡ m.1)
+    × GrowsFrom m.0 (entry m.0.number a.object a.call (answer_of a.kind a.call a.value)) (item word kind.Release n) a.value w.0
     × (a.value < values_of a.kind)
 
 abbrev pub stamp_tells : Asked → ℕ → Me (Unit {0}) View → ℕ → Me (Unit {0}) View → Type 0
-stamp_tells a word m n w = (w.1 ≡ m.1) × (w.0 ≡ moved m.0 (item word kind.Stamp n) (stamped_flight a.object n)) × StampTold a m.0 n
+stamp_tells a word m n w = (w.1 ≡ m.1) × (w.0 ≡ moved m.0 (item word kind.Stamp n) (stamped_flight a.object n))
+    × StampTold a m.0 n
 
 abbrev pub match_tells : Asked → ℕ → Me (Unit {0}) View → ℕ → Me (Unit {0}) View → Type 0
 match_tells a word m n w = (w.1 ≡ m.1) × (n ≡ a.stamp → Grows m.0 (entry m.0.number a.object Load (Value a.value)) (item word kind.Match n) w.0)

@@ -153,8 +153,9 @@ pub record IsHolder (S : Shape) (l : ℕ) (views : List View) (j : ℕ) : Type 0
   pub there : get_elem? views j ≡ some view
   pub under : HoldsUnder S l view.flight
 
--- a lock's word is 1 exactly where a view holds it, and else an even stamp, not below the first, and above it at most by
--- two for each entry on the lock's objects; a part is a number of its bits; parts that no holder has written hold the value
+-- a lock's word is 1 exactly where a view holds it, and else an even stamp, not below the first, and above it at most
+-- by two for each entry on the lock's objects; a part is a number of its bits; parts that no holder has written hold the
+-- value
 pub record Parts (S : Shape) (first_stamp : ℕ) (log : List Entry) (locks : ℕ → Lock) (words : List ℕ) (views : List View) : Type 0 where
   pub locked : (l : ℕ) → l < S.locks → slice_index words (lock_word S l) ≡ shown (locks l)
   pub even : (l : ℕ) → l < S.locks → (locks l).stamp % 2 ≡ 0

@@ -89,7 +89,8 @@ abbrev pub PutsThere : Cell → ℕ → View → ℕ → View → Type 0
 PutsThere cell i v n w = w ≡ moved v (item (part_word cell i) kind.Put n) (write_more v.flight i n)
 
 abbrev pub ReleasesThere : Shape → ℕ → Cell → Call → ℕ → View → ℕ → View → Type 0
-ReleasesThere S o cell call value v n w = GrowsFrom v (entry v.number o call (answer_of cell.kind call value)) (item (lock_word S cell.lock) kind.Release n) value w
+ReleasesThere S o cell call value v n w =
+    GrowsFrom v (entry v.number o call (answer_of cell.kind call value)) (item (lock_word S cell.lock) kind.Release n) value w
 
 abbrev pub StampsThere : Shape → ℕ → Cell → View → ℕ → View → Type 0
 StampsThere S o cell v n w = w ≡ moved v (item (lock_word S cell.lock) kind.Stamp n) (stamped_flight o n)

@@ -20,7 +20,8 @@ entries_under S l (x ∷ xs) = (if is_under l (place_of S x.object) then 1 else 
 
 -- n is the stamp of lock l at some point of the history, where each lock began with the first stamp. The history there
 -- begins with what the pass of this number has seen, none of the further entries is the pass's own, and a root that has
--- given no number has seen all of it. The stamp is at least the first, and at most two more for each entry on the lock's objects
+-- given no number has seen all of it. The stamp is at least the first, and at most two more for each entry on the lock's
+-- objects
 pub record IsStampIn (S : Shape) (l first number given : ℕ) (seen : List Entry) (n : ℕ) : Type 0 where
   pub between : List Entry
   pub others : entries_by between number ≡ []

@@ -28,7 +28,8 @@ use Rattle.seat_views.specs.Rule.{caller_of, number_of_ended, entries_of_ended}
 
 -- ---- what a step is asked for
 
--- the object and the call; the part; the value that was read; the stamp of the glance, or the first of the locks; of a lane its kind, its lowest bit, how many bits
+-- the object and the call; the part; the value that was read; the stamp of the glance, or the first of the locks; of a
+-- lane its kind, its lowest bit, how many bits
 -- it has, and the step that serves the call
 pub record Asked : Type 0 where
   pub object : ℕ

@@ -211,7 +211,8 @@ impl Pass {
     }
 
     /// Swaps 1 into the lock of an object that has parts. True where it found another number: the pass then holds the
-    /// lock, and else nothing is in flight.
+    /// lock, and else nothing is in flight. From the stamp found it can be told how many calls on the lock's objects
+    /// were made at least.
     pub fn step_take(&mut self, arena: &Arena, object: u32) -> bool
         requires arena { IsOf arena.now self.old }
         requires object { HasParts arena.now.shape object }

@@ -236,8 +236,8 @@ pub(crate) fn open_wide(
 }
 
 #[tactic(auto, using(crate::proofs::LockUses::two_parts, crate::proofs::LockUses::finds_first))]
-/// Opens an arena of a u128 in two parts, and takes its lock at once: what is found there is the stamp that the arena
-/// was opened with.
+/// Opens an arena whose first object has two parts, and takes its lock at once. Where the root gets it, it finds the
+/// stamp that the arena was opened with.
 pub(crate) fn open_held(alloc: Global, shape: Shape, stamp: u64) -> Option<(Arena, Root, bool)>
     ensures { IfSome result (λ r. MatchBool r.2 (r.1.flight ≡ Hold 0 stamp [] false []) (r.1.flight ≡ Idle)) }
 {

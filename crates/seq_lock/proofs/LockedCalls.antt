@@ -43,7 +43,8 @@ entry_made p q z T f o call r i s h = record {
 }
 
 -- steps of no entry leave every value
-value_at : (p q : PassState) (S : Shape) (o : ℕ) (T : List Item) (f : Flight) (between : List Entry) → Steps p T f q → value_after S (p.seen ++ between) o ≡ value_after S (q.seen ++ between) o
+value_at : (p q : PassState) (S : Shape) (o : ℕ) (T : List Item) (f : Flight) (between : List Entry) → Steps p T f q
+    → value_after S (p.seen ++ between) o ≡ value_after S (q.seen ++ between) o
 value_at p q S o T f between s = ap (λ (u : PassState). value_after S (u.seen ++ between) o) (sym s)
 
 -- ---- the pieces

@@ -52,8 +52,8 @@ pub record Trying (S : Shape) (o : ℕ) (p q : PassState) : Type 0 where
   pub goes_on : (U : List Item) → eat_takes (word_of_lock S o) (steps ++ U) ≡ eat_takes (word_of_lock S o) U
   pub state : Steps p steps Idle q
 
--- takes that found the lock held, and one that found another number, the lock's stamp: the lock is held. Each lock began
--- with the first stamp
+-- takes that found the lock held, and one that found another number, the lock's stamp: the lock is held. Each lock
+-- began with the first stamp
 pub record Took (S : Shape) (o first : ℕ) (p q : PassState) : Type 0 where
   pub steps : List Item
   pub stamp : ℕ
