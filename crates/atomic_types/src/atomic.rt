@@ -71,7 +71,7 @@ impl<V: Scalar> Atomic<V> {
     {
         // Only for its clause: the shape is a valid one.
         let _shape = arena.shape();
-        self.served.call(rt, arena, pass, call)
+        self.served.call_as::<V, R>(rt, arena, pass, call)
     }
 
     /// Makes a call that answers nothing.

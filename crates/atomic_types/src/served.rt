@@ -19,7 +19,7 @@ use exchange_loop::turn_until;
 use lane_word::Lane;
 use op_table::{Call, Class, Reply, Width};
 use place_core::Path;
-use scalar_laws::Addr;
+use scalar_laws::{Addr, Scalar};
 use seat_views::{Arena, Pass};
 use std::sync::Wait;
 
@@ -42,8 +42,44 @@ impl Served {
     {
         match arena.plan(self.object, call) {
             Path::One(op) => pass.step_op(arena, self.object, call, op),
-            Path::Loop => by_loop(rt, arena, pass, self.object, call),
-            Path::Locked => by_lock(rt, arena, pass, self.object, call),
+            // A copy goes there, so that the call itself stays in registers.
+            Path::Loop => {
+                let call = *call;
+                by_loop(rt, arena, pass, self.object, &call)
+            }
+            Path::Locked => {
+                let call = *call;
+                by_lock(rt, arena, pass, self.object, &call)
+            }
+        }
+    }
+
+    /// The same on an object of the type `V`, whose kind need not be looked up.
+    #[inline(always)]
+    pub(crate) fn call_as<V: Scalar, R: Wait>(
+        &self,
+        rt: &R,
+        arena: &Arena,
+        pass: &mut Pass,
+        call: &Call,
+    ) -> Reply
+        requires arena { IsOf arena.now pass.old }
+        requires object { self.now.object < length arena.now.shape.objects }
+        requires kind { V.KIND ≡ kind_of arena.now.shape self.now.object }
+        requires fits { CallFits (kind_of arena.now.shape self.now.object) call.now }
+        requires rest { pass.old.flight ≡ Idle }
+        ensures { Serves arena.now.shape self.now.object call.now pass.old result pass.new }
+    {
+        match arena.plan(self.object, call) {
+            Path::One(step) => pass.step_op(arena, self.object, call, step),
+            Path::Loop => {
+                let call = *call;
+                by_tries::<V, R>(rt, arena, pass, self.object, &call)
+            }
+            Path::Locked => {
+                let call = *call;
+                under_lock::<V, R>(rt, arena, pass, self.object, &call)
+            }
         }
     }
 
@@ -63,7 +99,32 @@ impl Served {
     }
 }
 
-/// Makes a call whose plan is a loop.
+/// Makes a call whose plan is a loop, on an object of the type.
+fn by_tries<V: Scalar, R: Wait>(
+    rt: &R,
+    arena: &Arena,
+    pass: &mut Pass,
+    object: u32,
+    call: &Call,
+) -> Reply
+    requires arena { IsOf arena.now pass.old }
+    requires object { object < length arena.now.shape.objects }
+    requires kind { V.KIND ≡ kind_of arena.now.shape object }
+    requires fits { CallFits (kind_of arena.now.shape object) call.now }
+    requires loops { plan_of arena.now.shape object call.now ≡ Loop }
+    requires rest { pass.old.flight ≡ Idle }
+    ensures { Serves arena.now.shape object call.now pass.old result pass.new }
+{
+    let Some(lane) = Lane::of(arena.shape(), object) else {
+        unreachable!()
+    };
+    match call {
+        Call::CasWeak(expected, new) => lane.cas_weak(arena, pass, *expected, *new),
+        _ => turn_until::<V, R>(rt, arena, pass, lane, call),
+    }
+}
+
+/// Makes a call whose plan is a loop, at the type of the object's kind.
 #[inline(never)]
 fn by_loop<R: Wait>(rt: &R, arena: &Arena, pass: &mut Pass, object: u32, call: &Call) -> Reply
     requires arena { IsOf arena.now pass.old }
@@ -76,29 +137,34 @@ fn by_loop<R: Wait>(rt: &R, arena: &Arena, pass: &mut Pass, object: u32, call: &
     let Some(lane) = Lane::of(arena.shape(), object) else {
         unreachable!()
     };
-    match call {
-        Call::CasWeak(expected, new) => lane.cas_weak(arena, pass, *expected, *new),
-        _ => turned(rt, arena, pass, lane, call),
-    }
-}
-
-/// Makes a call by a loop of tries, at the type of the object's kind.
-fn turned<R: Wait>(rt: &R, arena: &Arena, pass: &mut Pass, lane: Lane, call: &Call) -> Reply
-    requires arena { IsOf arena.now pass.old }
-    requires object { lane < length arena.now.shape.objects }
-    requires lane { HasLane arena.now.shape lane }
-    requires fits { CallFits (kind_of arena.now.shape lane) call.now }
-    requires loops { plan_of arena.now.shape lane call.now ≡ Loop }
-    requires strong { is_weak call.now ≡ false }
-    requires rest { pass.old.flight ≡ Idle }
-    ensures { Turns arena.now.shape lane call.now pass.old result pass.new }
-{
     fits_in_word(arena, lane.object());
-    let kind = kind_at(arena, lane.object());
-    at_word_kind!(kind, turn_until, R, (rt, arena, pass, lane, call))
+    let kind = kind_at(arena, object);
+    at_word_kind!(kind, by_tries, R, (rt, arena, pass, object, call))
 }
 
-/// Makes a call whose plan is a lock: the section's, or one of the object's parts.
+/// Makes a call whose plan is a lock, on an object of the type: the section's lock, or that of the object's parts.
+fn under_lock<V: Scalar, R: Wait>(
+    rt: &R,
+    arena: &Arena,
+    pass: &mut Pass,
+    object: u32,
+    call: &Call,
+) -> Reply
+    requires arena { IsOf arena.now pass.old }
+    requires object { object < length arena.now.shape.objects }
+    requires kind { V.KIND ≡ kind_of arena.now.shape object }
+    requires fits { CallFits (kind_of arena.now.shape object) call.now }
+    requires locked { plan_of arena.now.shape object call.now ≡ Locked }
+    requires rest { pass.old.flight ≡ Idle }
+    ensures { Serves arena.now.shape object call.now pass.old result pass.new }
+{
+    if arena.shape().section {
+        return critical_cell::call::<V, R>(rt, arena, pass, object, call);
+    }
+    wide_cell::call::<V, R>(rt, arena, pass, object, call)
+}
+
+/// Makes a call whose plan is a lock, at the type of the object's kind.
 #[inline(never)]
 fn by_lock<R: Wait>(rt: &R, arena: &Arena, pass: &mut Pass, object: u32, call: &Call) -> Reply
     requires arena { IsOf arena.now pass.old }
@@ -108,37 +174,6 @@ fn by_lock<R: Wait>(rt: &R, arena: &Arena, pass: &mut Pass, object: u32, call: &
     requires rest { pass.old.flight ≡ Idle }
     ensures { Serves arena.now.shape object call.now pass.old result pass.new }
 {
-    if arena.shape().section {
-        return in_section(rt, arena, pass, object, call);
-    }
-    in_parts(rt, arena, pass, object, call)
-}
-
-/// Makes a call in a section, at the type of the object's kind.
-fn in_section<R: Wait>(rt: &R, arena: &Arena, pass: &mut Pass, object: u32, call: &Call) -> Reply
-    requires arena { IsOf arena.now pass.old }
-    requires section { arena.now.shape.section ≡ true }
-    requires object { object < length arena.now.shape.objects }
-    requires fits { CallFits (kind_of arena.now.shape object) call.now }
-    requires rest { pass.old.flight ≡ Idle }
-    ensures { MakesCall arena.now.shape object call.now pass.old result pass.new }
-{
-    use critical_cell::call as locked;
     let kind = kind_at(arena, object);
-    at_any_kind!(kind, locked, R, (rt, arena, pass, object, call))
-}
-
-/// Makes a call on an object with parts outside a section, at the type of the object's kind.
-fn in_parts<R: Wait>(rt: &R, arena: &Arena, pass: &mut Pass, object: u32, call: &Call) -> Reply
-    requires arena { IsOf arena.now pass.old }
-    requires apart { arena.now.shape.section ≡ false }
-    requires object { object < length arena.now.shape.objects }
-    requires fits { CallFits (kind_of arena.now.shape object) call.now }
-    requires locked { plan_of arena.now.shape object call.now ≡ Locked }
-    requires rest { pass.old.flight ≡ Idle }
-    ensures { MakesCall arena.now.shape object call.now pass.old result pass.new }
-{
-    use wide_cell::call as locked;
-    let kind = kind_at(arena, object);
-    at_any_kind!(kind, locked, R, (rt, arena, pass, object, call))
+    at_any_kind!(kind, under_lock, R, (rt, arena, pass, object, call))
 }
