@@ -100,6 +100,7 @@ impl Served {
 }
 
 /// Makes a call whose plan is a loop, on an object of the type.
+#[inline(always)]
 fn by_tries<V: Scalar, R: Wait>(
     rt: &R,
     arena: &Arena,

@@ -39,6 +39,7 @@ impl Scalar for Addr {
     }
 
     // What an address has of the table, a number of 64 bits has too.
+    #[inline(always)]
     fn apply(self, call: &Call) -> (Self, Reply) {
         let (next, reply) = self.0.apply(call);
         (Addr(next), reply)

@@ -40,6 +40,7 @@ impl Scalar for i8 {
     }
 
     #[tactic(auto, using(crate::proofs::BitPlaces::bits_8))]
+    #[inline(always)]
     fn apply(self, call: &Call) -> (Self, Reply) {
         let bits = self.to_bits();
         apply_int!(i8, self, bits, call)
@@ -82,6 +83,7 @@ impl Scalar for i16 {
     }
 
     #[tactic(auto, using(crate::proofs::BitPlaces::bits_16))]
+    #[inline(always)]
     fn apply(self, call: &Call) -> (Self, Reply) {
         let bits = self.to_bits();
         apply_int!(i16, self, bits, call)
@@ -124,6 +126,7 @@ impl Scalar for i32 {
     }
 
     #[tactic(auto, using(crate::proofs::BitPlaces::bits_32))]
+    #[inline(always)]
     fn apply(self, call: &Call) -> (Self, Reply) {
         let bits = self.to_bits();
         apply_int!(i32, self, bits, call)
@@ -166,6 +169,7 @@ impl Scalar for i64 {
     }
 
     #[tactic(auto, using(crate::proofs::BitPlaces::signed_64))]
+    #[inline(always)]
     fn apply(self, call: &Call) -> (Self, Reply) {
         let bits = self.to_bits();
         apply_int!(i64, self, bits, call)
@@ -208,6 +212,7 @@ impl Scalar for i128 {
     }
 
     #[tactic(auto, using(crate::proofs::BitPlaces::signed_128))]
+    #[inline(always)]
     fn apply(self, call: &Call) -> (Self, Reply) {
         let bits = self.to_bits();
         apply_int!(i128, self, bits, call)

@@ -37,6 +37,7 @@ impl Scalar for bool {
         pattern == 1
     }
 
+    #[inline(always)]
     fn apply(self, call: &Call) -> (Self, Reply) {
         let bits = self.to_bits();
         apply_logic!(bool, self, bits, call, { _ => unreachable!() })

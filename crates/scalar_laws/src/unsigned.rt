@@ -38,6 +38,7 @@ impl Scalar for u8 {
     }
 
     #[tactic(auto, using(crate::proofs::BitPlaces::bits_8))]
+    #[inline(always)]
     fn apply(self, call: &Call) -> (Self, Reply) {
         let bits = self.to_bits();
         apply_int!(u8, self, bits, call)
@@ -80,6 +81,7 @@ impl Scalar for u16 {
     }
 
     #[tactic(auto, using(crate::proofs::BitPlaces::bits_16))]
+    #[inline(always)]
     fn apply(self, call: &Call) -> (Self, Reply) {
         let bits = self.to_bits();
         apply_int!(u16, self, bits, call)
@@ -122,6 +124,7 @@ impl Scalar for u32 {
     }
 
     #[tactic(auto, using(crate::proofs::BitPlaces::bits_32))]
+    #[inline(always)]
     fn apply(self, call: &Call) -> (Self, Reply) {
         let bits = self.to_bits();
         apply_int!(u32, self, bits, call)
@@ -164,6 +167,7 @@ impl Scalar for u64 {
     }
 
     #[tactic(auto, using(crate::proofs::BitPlaces::bits_64))]
+    #[inline(always)]
     fn apply(self, call: &Call) -> (Self, Reply) {
         let bits = self.to_bits();
         apply_int!(u64, self, bits, call)
@@ -206,6 +210,7 @@ impl Scalar for u128 {
     }
 
     #[tactic(auto, using(crate::proofs::BitPlaces::bits_128))]
+    #[inline(always)]
     fn apply(self, call: &Call) -> (Self, Reply) {
         let bits = self.to_bits();
         apply_int!(u128, self, bits, call)
