@@ -75,10 +75,10 @@ fn once(on: &Objects, peer: &str, call: &str) {
     let pair = on.pair.0.get();
     match (peer, call) {
         ("std", "served_add" | "typed_add") => {
-            std::hint::black_box(on.wide.0.fetch_add(1, SeqCst));
+            on.wide.0.fetch_add(1, SeqCst);
         }
         ("std", "typed_nand") => {
-            std::hint::black_box(on.small.0.fetch_nand(170, SeqCst));
+            on.small.0.fetch_nand(170, SeqCst);
         }
         ("hand", "wide_load") => {
             std::hint::black_box(on.load());
