@@ -13,7 +13,8 @@ use work_lang::{MemSink, MemSource, Sink, Source, SureSink, SureSource};
 
 const FIRST: &[u8] = b"work 1\ntarget full64\nobject n u64 0\nthread\nn fetch_add 5\nn load\nend\n";
 
-const FIRST_REPORT: &[u8] = b"target full64\nthread 1\nn fetch_add 5 = 0\nn load = 5\nlast\nn 5 fixed\n";
+const FIRST_REPORT: &[u8] =
+    b"target full64\nthread 1\nn fetch_add 5 = 0\nn load = 5\nlast\nn 5 fixed\n";
 
 fn words_of(alloc: Global, words: &[&str]) -> Result<Vec<String>, Fail> {
     let mut made = Vec::new(alloc);
