@@ -255,8 +255,18 @@ enum Operands {
     Position,
 }
 
+// families of calls, each a bit: calls of one family leave the same value in whichever order they are made
+const LOADS: u8 = 0;
+const SUMS: u8 = 1;
+const FLIPS: u8 = 2;
+const SETS: u8 = 4;
+const CLEARS: u8 = 8;
+const MAXIMA: u8 = 16;
+const MINIMA: u8 = 32;
+const OTHERS: u8 = u8::MAX;
+
 macro_rules! operations {
-    ($($name:ident $word:literal $classes:expr, $operands:ident;)*) => {
+    ($($name:ident $word:literal $classes:expr, $operands:ident, $family:ident;)*) => {
         #[derive(Clone, Copy, PartialEq, Eq)]
         #[repr(u8)]
         enum Operation {
@@ -269,6 +279,7 @@ macro_rules! operations {
             text: Padded<24>,
             classes: u8,
             operands: Operands,
+            family: u8,
         }
 
         const WORDS: &[Word] = &[
@@ -277,39 +288,40 @@ macro_rules! operations {
                 text: Padded::of(concat!(" ", $word).as_bytes()),
                 classes: $classes,
                 operands: Operands::$operands,
+                family: $family,
             },)*
         ];
     };
 }
 
 operations! {
-    Load "load" INT | BOOL | PTR, None;
-    Store "store" INT | BOOL | PTR, One;
-    Swap "swap" INT | BOOL | PTR, One;
-    CompareExchange "compare_exchange" INT | BOOL | PTR, Two;
-    CompareExchangeWeak "compare_exchange_weak" INT | BOOL | PTR, Two;
-    FetchAdd "fetch_add" INT, One;
-    Add "add" INT, One;
-    FetchSub "fetch_sub" INT, One;
-    Sub "sub" INT, One;
-    FetchAnd "fetch_and" INT | BOOL | PTR, One;
-    And "and" INT | BOOL, One;
-    FetchNand "fetch_nand" INT | BOOL, One;
-    FetchOr "fetch_or" INT | BOOL | PTR, One;
-    Or "or" INT | BOOL, One;
-    FetchXor "fetch_xor" INT | BOOL | PTR, One;
-    Xor "xor" INT | BOOL, One;
-    FetchMax "fetch_max" INT, One;
-    FetchMin "fetch_min" INT, One;
-    FetchNot "fetch_not" INT | BOOL, None;
-    Not "not" INT | BOOL, None;
-    FetchNeg "fetch_neg" INT, None;
-    Neg "neg" INT, None;
-    BitSet "bit_set" INT | PTR, Position;
-    BitClear "bit_clear" INT | PTR, Position;
-    BitToggle "bit_toggle" INT | PTR, Position;
-    FetchByteAdd "fetch_byte_add" PTR, One;
-    FetchByteSub "fetch_byte_sub" PTR, One;
+    Load "load" INT | BOOL | PTR, None, LOADS;
+    Store "store" INT | BOOL | PTR, One, OTHERS;
+    Swap "swap" INT | BOOL | PTR, One, OTHERS;
+    CompareExchange "compare_exchange" INT | BOOL | PTR, Two, OTHERS;
+    CompareExchangeWeak "compare_exchange_weak" INT | BOOL | PTR, Two, OTHERS;
+    FetchAdd "fetch_add" INT, One, SUMS;
+    Add "add" INT, One, SUMS;
+    FetchSub "fetch_sub" INT, One, SUMS;
+    Sub "sub" INT, One, SUMS;
+    FetchAnd "fetch_and" INT | BOOL | PTR, One, CLEARS;
+    And "and" INT | BOOL, One, CLEARS;
+    FetchNand "fetch_nand" INT | BOOL, One, OTHERS;
+    FetchOr "fetch_or" INT | BOOL | PTR, One, SETS;
+    Or "or" INT | BOOL, One, SETS;
+    FetchXor "fetch_xor" INT | BOOL | PTR, One, FLIPS;
+    Xor "xor" INT | BOOL, One, FLIPS;
+    FetchMax "fetch_max" INT, One, MAXIMA;
+    FetchMin "fetch_min" INT, One, MINIMA;
+    FetchNot "fetch_not" INT | BOOL, None, FLIPS;
+    Not "not" INT | BOOL, None, FLIPS;
+    FetchNeg "fetch_neg" INT, None, OTHERS;
+    Neg "neg" INT, None, OTHERS;
+    BitSet "bit_set" INT | PTR, Position, SETS;
+    BitClear "bit_clear" INT | PTR, Position, CLEARS;
+    BitToggle "bit_toggle" INT | PTR, Position, FLIPS;
+    FetchByteAdd "fetch_byte_add" PTR, One, SUMS;
+    FetchByteSub "fetch_byte_sub" PTR, One, SUMS;
 }
 
 /// A number below 64 that differs from word to word; of at least two bytes.
@@ -1039,6 +1051,16 @@ cells! {
     Ptr AtomicU64 u64 u64;
 }
 
+/// Of each object whether its last value is the same in whichever order the threads make their calls: all calls on it
+/// are loads and members of one family.
+fn fixed(work: &Work) -> Vec<bool> {
+    let mut families = vec![LOADS; work.objects.len()];
+    for line in work.threads.iter().flatten() {
+        families[line.object as usize] |= WORDS[line.operation as usize].family;
+    }
+    families.iter().map(|families| families.count_ones() <= 1).collect()
+}
+
 /// Runs each script on a thread of its own.
 fn run(work: &Work, cells: &[Cell]) -> Vec<Vec<Reply>> {
     let mut replies: Vec<_> = work.threads.iter().map(|script| Vec::with_capacity(script.len())).collect();
@@ -1260,7 +1282,7 @@ impl Out {
         Ok(())
     }
 
-    fn report(&mut self, work: &Work, replies: &[Vec<Reply>], last: &[u128]) -> io::Result<()> {
+    fn report(&mut self, work: &Work, fixed: &[bool], replies: &[Vec<Reply>], last: &[u128]) -> io::Result<()> {
         self.all(b"target ");
         for byte in work.target.bytes() {
             self.all(&[byte]);
@@ -1276,11 +1298,14 @@ impl Out {
             }
         }
         self.all(b"last\n");
-        for (object, value) in work.objects.iter().zip(last) {
+        for ((object, value), fixed) in work.objects.iter().zip(last).zip(fixed) {
             self.room()?;
             self.fixed(&object.name.bytes, object.name.length);
             self.all(b" ");
             self.value(object.kind, *value);
+            if *fixed {
+                self.all(b" fixed");
+            }
             self.all(b"\n");
         }
         self.flush()
@@ -1316,8 +1341,9 @@ fn main() -> io::Result<ExitCode> {
     };
     drop(text);
     let cells: Vec<Cell> = work.objects.iter().map(Cell::of).collect();
+    let fixed = fixed(&work);
     let replies = run(&work, &cells);
     let last: Vec<u128> = cells.iter().map(Cell::load).collect();
-    Out::new().report(&work, &replies, &last)?;
+    Out::new().report(&work, &fixed, &replies, &last)?;
     Ok(ExitCode::SUCCESS)
 }

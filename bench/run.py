@@ -29,9 +29,9 @@ def last(report: bytes) -> bytes:
 
 
 def calls(report: bytes) -> bytes:
-    """The calls, and the names of the last values, without what was found."""
-    found = rb"(?m)( =|^[a-z][a-z0-9_]*) [^\n =]*( [^\n =]*)?$"
-    return re.sub(found, rb"\1", report)
+    """The calls, and of the last values the names and which are fixed, without what was found."""
+    found = rb"(?m)( =|^[a-z][a-z0-9_]*) (?:ok |err )?[^\n =]*( fixed)?$"
+    return re.sub(found, rb"\1\2", report)
 
 
 # what of a report is a function of the workload

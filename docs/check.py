@@ -18,7 +18,7 @@ EXAMPLES = [
     (["plan"], "wide.work", "wide.plan"),
     (["targets"], None, "targets"),
 ]
-LAST = "last\nready true\nhits 3\nid 18446744073709551618\nhead 0x10\n"
+LAST = "last\nready true\nhits 3 fixed\nid 18446744073709551618 fixed\nhead 0x10\n"
 
 
 def written(program: Path, words: list, text: bytes) -> list:

@@ -105,11 +105,12 @@ fixed_from-at lines n (suc o) (cell ∷ cells) =
     fixed_from-at lines (n + 1) o cells
     ∙ ap (λ (m : ℕ). option_map (λ c. fixed_by (Some c) (calls_on m lines)) (slice_get cells o)) (let e : n + 1 + o ≡ n + suc o = omega arith in e)
 
-length-fixed_from : (lines : List Line) (n : ℕ) (cells : List Cell) → length (fixed_from lines n cells) ≡ length cells
+-- one value a cell
+pub length-fixed_from : (lines : List Line) (n : ℕ) (cells : List Cell) → length (fixed_from lines n cells) ≡ length cells
 length-fixed_from lines n [] = refl
 length-fixed_from lines n (cell ∷ cells) = ap suc (length-fixed_from lines (n + 1) cells)
 
--- one value an object
+-- and one an object of a shape
 pub length-fixed_values_of : (S : Shape) (scripts : List (List Line)) → length (fixed_values_of (cells_of_shape S) scripts) ≡ length S.objects
 length-fixed_values_of S scripts =
     length-fixed_from (lines_of scripts) 0 (cells_of_shape S) ∙ length-map S.objects (λ (a : Object). record { kind = a.kind; start = a.start })

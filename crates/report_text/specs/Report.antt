@@ -1,5 +1,5 @@
 -- The report of a run, as a list of lines, each with its end.
-use Rattle.std.specs.Prelude.{ℕ, ◌+◌, List, [], ◌∷◌, ◌++◌, codes, if◌then◌else◌}
+use Rattle.std.specs.Prelude.{ℕ, ◌+◌, List, [], ◌∷◌, ◌++◌, Option, Some, None, codes, if◌then◌else◌}
 use Rattle.std.specs.Fmt.{decimal}
 use Rattle.op_table.specs.declared.kind.Kind.{Kind}
 use Rattle.op_table.specs.declared.call.Reply.{Reply}
@@ -10,7 +10,9 @@ use Rattle.place_core.specs.RepliesState.{RepliesState}
 use Rattle.place_core.specs.declared.name.Declared.{Declared}
 use Rattle.place_core.specs.declared.script.Line.{Line}
 use Rattle.place_core.specs.declared.entry.Entry.{Entry}
+use Rattle.place_core.specs.DeclaredObjects.{cells_of}
 use Rattle.place_core.specs.Runs.{replies_by, replies_from}
+use Rattle.ledger_sums.specs.Fixed.{fixed_values_of}
 use Rattle.work_lang.specs.Streams.{text_of}
 use Rattle.work_lang.specs.Spelling.{Pairs}
 use Rattle.work_lang.specs.Workload.{Workload}
@@ -46,23 +48,34 @@ thread_lines objects i [] rss = []
 thread_lines objects i (ls ∷ lss) [] = []
 thread_lines objects i (ls ∷ lss) (rs ∷ rss) = thread_head i ∷ (reply_lines objects ls rs ++ thread_lines objects (i + 1) lss rss)
 
--- an object and what its last load replied
-abbrev pub last_line : Declared → Reply → List ℕ
-last_line d answered = d.name ++ 32 ∷ (reply_text d.kind answered ++ 10 ∷ [])
+-- what stands after the last value of an object that has a fixed one
+abbrev pub fixed_word : Option ℕ → List ℕ
+fixed_word None = []
+fixed_word (Some v) = codes " fixed"
 
-abbrev pub last_lines : List Declared → List Reply → List (List ℕ)
-last_lines [] rs = []
-last_lines (d ∷ ds) [] = []
-last_lines (d ∷ ds) (r ∷ rs) = last_line d r ∷ last_lines ds rs
+-- an object, what its last load replied, and whether it has a fixed value
+abbrev pub last_line : Declared → Reply → Option ℕ → List ℕ
+last_line d answered fixed = d.name ++ 32 ∷ (reply_text d.kind answered ++ (fixed_word fixed ++ 10 ∷ []))
 
--- the lines with these replies of the threads and of the last loads
-abbrev pub lines_with : Workload → List (List Reply) → List Reply → List (List ℕ)
-lines_with w replies last = target_line w.target ∷ (thread_lines w.objects 1 w.threads replies ++ codes "last\n" ∷ last_lines w.objects last)
+abbrev pub last_lines : List Declared → List Reply → List (Option ℕ) → List (List ℕ)
+last_lines [] rs fs = []
+last_lines (d ∷ ds) [] fs = []
+last_lines (d ∷ ds) (r ∷ rs) [] = []
+last_lines (d ∷ ds) (r ∷ rs) (f ∷ fs) = last_line d r f ∷ last_lines ds rs fs
+
+-- the lines with these replies of the threads and of the last loads, and these fixed values
+abbrev pub lines_with : Workload → List (List Reply) → List Reply → List (Option ℕ) → List (List ℕ)
+lines_with w replies last fixed = target_line w.target ∷ (thread_lines w.objects 1 w.threads replies ++ codes "last\n" ∷ last_lines w.objects last fixed)
 
 -- ---- of a history
 
+-- the fixed values of a workload's objects
+abbrev pub fixed_of : Workload → List (Option ℕ)
+fixed_of w = fixed_values_of (cells_of w.objects) w.threads
+
+-- the fixed values are told by the workload alone, all else by the history
 abbrev pub report_lines : Workload → List Entry → List (List ℕ)
-report_lines w H = lines_with w (replies_from H 1 w.threads) (replies_by H 0)
+report_lines w H = lines_with w (replies_from H 1 w.threads) (replies_by H 0) (fixed_of w)
 
 -- the report of a history
 abbrev pub report_of : Workload → List Entry → List ℕ

@@ -1,10 +1,10 @@
-//! The texts of replies.
+//! The texts of replies, and the word of a fixed value.
 
 ghost use Rattle.std.specs.Prelude.{◌≡◌, ◌+◌, ◌<◌, ◌≤◌, ◌++◌, length};
 ghost use Rattle.op_table.specs.Kind.{IsKind, values_of};
 ghost use Rattle.op_table.specs.Call.{ReplyFits};
 ghost use Rattle.op_table.specs.Value.{value_text};
-ghost use Rattle.report_text.specs.Report.{reply_text};
+ghost use Rattle.report_text.specs.Report.{reply_text, fixed_word};
 
 use op_table::{Kind, LineBuf, Reply};
 
@@ -40,5 +40,17 @@ pub fn push_reply(out: &mut LineBuf, kind: Kind, reply: &Reply)
             out.push_text(b"err ");
             push_value(out, kind, *value);
         }
+    }
+}
+
+/// Adds the word `fixed` where there is a fixed value. It takes 6 bytes at most.
+pub(crate) fn push_fixed(out: &mut LineBuf, fixed: Option<u128>)
+    requires room { length out.old + 6 ≤ 256 }
+    ensures value { out.new ≡ out.old ++ fixed_word fixed }
+    ensures short { length out.new ≤ length out.old + 6 }
+{
+    match fixed {
+        Some(_) => out.push_text(b" fixed"),
+        None => {}
     }
 }

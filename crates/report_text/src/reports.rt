@@ -11,7 +11,8 @@ ghost use Rattle.work_lang.specs.Workload.{LineFits, HasLine};
 ghost use Rattle.work_lang.specs.Reading.{kind_at};
 ghost use Rattle.report_text.specs.Report.{reply_line, reply_lines, thread_head, thread_lines, last_line, last_lines, lines_with, AnswerLines, AnswerThreads, AnswerObjects, items_of};
 
-use crate::replies::push_reply;
+use crate::replies::{push_fixed, push_reply};
+use ledger_sums::Fixed;
 use op_table::{LineBuf, Reply};
 use place_core::{Declared, Line, Replies, Script};
 use work_lang::{Sink, Work, WriteEnd, push_call, write_all, write_target};
@@ -106,30 +107,43 @@ fn write_threads<K: Sink>(
     Ok(())
 }
 
-/// Writes an object and what its last load replied.
-fn write_last_value<K: Sink>(object: &Declared, reply: &Reply, sink: &mut K) -> Result<(), WriteEnd>
+/// Writes an object, what its last load replied, and whether it has a fixed value.
+fn write_last_value<K: Sink>(
+    object: &Declared,
+    reply: &Reply,
+    fixed: Option<u128>,
+    sink: &mut K,
+) -> Result<(), WriteEnd>
     requires sound { IsDeclared object.now }
     requires fits { ReplyFits object.now.kind reply.now }
-    ensures { Writes K.taken K.faults sink.old sink.new result (last_line object.now reply.now ∷ []) }
+    ensures { Writes K.taken K.faults sink.old sink.new result (last_line object.now reply.now fixed ∷ []) }
 {
     let mut out = LineBuf::new();
     let name = object.name;
     out.push_text(name.bytes());
     out.push_text(b" ");
     push_reply(&mut out, object.kind, reply);
+    push_fixed(&mut out, fixed);
     out.push_text(b"\n");
     write_all(out.bytes(), sink)
 }
 
 /// Writes the last values.
-fn write_last<K: Sink>(objects: &[Declared], last: &Replies, sink: &mut K) -> Result<(), WriteEnd>
+fn write_last<K: Sink>(
+    objects: &[Declared],
+    last: &Replies,
+    fixed: &Fixed,
+    sink: &mut K,
+) -> Result<(), WriteEnd>
     requires sound { AllByRecursion IsDeclared objects.now }
     requires answers { AnswerObjects objects.now last.now.items }
-    ensures { Writes K.taken K.faults sink.old sink.new result (last_lines objects.now last.now.items) }
+    requires whole { length fixed.now ≡ length objects.now }
+    ensures { Writes K.taken K.faults sink.old sink.new result (last_lines objects.now last.now.items fixed.now) }
 {
     let mut i = 0;
     'objects: while i < last.len() {
-        match write_last_value(&objects[i as usize], last.at(i), sink) {
+        let told = fixed.at(i);
+        match write_last_value(&objects[i as usize], last.at(i), told, sink) {
             Ok(()) => {}
             Err(end) => return Err(end),
         }
@@ -139,17 +153,20 @@ fn write_last<K: Sink>(objects: &[Declared], last: &Replies, sink: &mut K) -> Re
 }
 
 /// Writes the report of a run of the workload, line by line, each with its end as one piece: the target, the replies of
-/// each thread, one a call in order, and the last values, one an object in declared order. It takes no memory. At Fault,
-/// which comes only where the sink's count rose, what was taken is a front of the report.
+/// each thread, one a call in order, and the last values, one an object in declared order, with the word `fixed` where
+/// the object has a fixed value. It takes no memory. At Fault, which comes only where the sink's count rose, what was
+/// taken is a front of the report.
 pub fn report<K: Sink>(
     work: &Work,
+    fixed: &Fixed,
     replies: &[Replies],
     last: &Replies,
     sink: &mut K,
 ) -> Result<(), WriteEnd>
     requires threads { AnswerThreads work.now.objects work.now.threads (map items_of replies.now) }
     requires last { AnswerObjects work.now.objects last.now.items }
-    ensures { Writes K.taken K.faults sink.old sink.new result (lines_with work.now (map items_of replies.now) last.now.items) }
+    requires fixed { length fixed.now ≡ length work.now.objects }
+    ensures { Writes K.taken K.faults sink.old sink.new result (lines_with work.now (map items_of replies.now) last.now.items fixed.now) }
 {
     let target = work.target();
     let objects = work.objects();
@@ -166,5 +183,5 @@ pub fn report<K: Sink>(
         Ok(()) => {}
         Err(end) => return Err(end),
     }
-    write_last(objects, last, sink)
+    write_last(objects, last, fixed, sink)
 }

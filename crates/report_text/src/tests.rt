@@ -1,18 +1,21 @@
-//! The texts of replies, and a report of two threads.
+//! The texts of replies, and reports of two threads, with a fixed value and without one.
 
-ghost use Rattle.std.specs.Prelude.{◌≡◌, ◌∷◌, [], true, IfOk};
+ghost use Rattle.std.specs.Prelude.{◌≡◌, ◌∷◌, [], length, map, true, IfOk};
 ghost use Rattle.target_desc.specs.Target.{IsTarget};
 ghost use Rattle.place_core.specs.DeclaredObjects.{IsDeclared};
 ghost use Rattle.place_core.specs.Name.{is_name};
 ghost use Rattle.place_core.specs.Pieces.{script_lines};
+ghost use Rattle.place_core.specs.Runs.{ScriptsFit};
 ghost use Rattle.work_lang.specs.Workload.{LineFits};
 ghost use Rattle.report_text.specs.Report.{AnswerThreads, AnswerObjects};
 
 use crate::{push_reply, report};
-use op_table::{Call, Class, Kind, LineBuf, NoMemory, Order, Reply, Width};
-use place_core::{Declared, Line, Name, Replies, Script};
+use ledger_sums::{Fixed, fixed_values};
+use op_table::{Call, Class, Kind, LineBuf, NoMemory, Order, Reply, StepSet, Width};
+use place_core::{Declared, Line, Name, Object, Objects, Place, Replies, Script, Shape, shape_ok};
 use std::alloc::Global;
-use std::test::Fail;
+use std::process::Abort;
+use std::test::*;
 use target_desc::{Target, builtin, target_ok};
 use work_lang::{MemSink, Work};
 
@@ -94,26 +97,65 @@ fn reply_of(alloc: Global, reply: Reply) -> Result<Replies, NoMemory>
     Ok(replies)
 }
 
+/// The fixed value of an object of this kind and start, alone in its words, under scripts.
+fn fixed_of(
+    rt: &impl Abort,
+    alloc: Global,
+    kind: Kind,
+    start: u128,
+    scripts: &[Script],
+) -> Result<Fixed, Fail>
+    requires { ScriptsFit (record { kind = kind; start = start } ∷ []) (map script_lines scripts.now) }
+    ensures { IfOk result (λ f. length f ≡ 1) }
+{
+    let place = Place::Parts {
+        lock: 0,
+        first: 0,
+        parts: 2,
+        part_bits: 64,
+    };
+    let mut objects = Vec::new(alloc);
+    objects
+        .push(Object { kind, place, start })
+        .map_err(|_| NoMemory)?;
+    let shape = Shape {
+        word_bits: 64,
+        steps: StepSet {
+            swap: false,
+            add: false,
+            bits: false,
+            order: false,
+        },
+        section: false,
+        words: 2,
+        locks: 1,
+        objects: Objects::of(objects),
+    };
+    assert!(rt; shape_ok(&shape));
+    Ok(fixed_values(alloc, &shape, scripts)?)
+}
+
 /// Writes the report of two threads with a reply each, of one object.
 fn write_report(
     alloc: Global,
     work: &Work,
-    first: Reply,
-    second: Reply,
+    fixed: &Fixed,
+    replies: (Reply, Reply),
     last: Reply,
     sink: &mut MemSink,
 ) -> Result<(), Fail>
-    requires threads { AnswerThreads work.now.objects work.now.threads ((first ∷ []) ∷ (second ∷ []) ∷ []) }
+    requires threads { AnswerThreads work.now.objects work.now.threads ((replies.0 ∷ []) ∷ (replies.1 ∷ []) ∷ []) }
     requires last { AnswerObjects work.now.objects (last ∷ []) }
+    requires fixed { length fixed.now ≡ length work.now.objects }
 {
-    let replies = [reply_of(alloc, first)?, reply_of(alloc, second)?];
+    let replies = [reply_of(alloc, replies.0)?, reply_of(alloc, replies.1)?];
     let last = reply_of(alloc, last)?;
-    report(work, &replies, &last, sink)?;
+    report(work, fixed, &replies, &last, sink)?;
     Ok(())
 }
 
-const OCTET: Kind = Kind {
-    width: Width::W8,
+const WIDE: Kind = Kind {
+    width: Width::W128,
     signed: false,
     class: Class::Int,
 };
@@ -122,6 +164,13 @@ const ADD: Line = Line {
     object: 0,
     call: Call::Add(5, false),
     success: Order::SeqCst,
+    failure: None,
+};
+
+const SUBTRACT: Line = Line {
+    object: 0,
+    call: Call::Sub(3, true),
+    success: Order::Relaxed,
     failure: None,
 };
 
@@ -138,16 +187,18 @@ fn writes_two_threads(rt: HostRuntime) -> Result<(), Fail> {
     assert!(rt; target_ok(&target));
     let object = Declared {
         name: Name::of(b"n").ok_or("no name")?,
-        kind: OCTET,
+        kind: WIDE,
         start: 7,
     };
     let work = work_of(rt.alloc(), target, object, ADD, EXCHANGE)?;
+    let fixed = fixed_of(&rt, rt.alloc(), WIDE, 7, work.threads())?;
     let mut sink = MemSink::of(rt.alloc(), 256, 256, &[])?;
+    let replies = (Reply::Value(7), Reply::Failed(12));
     write_report(
         rt.alloc(),
         &work,
-        Reply::Value(7),
-        Reply::Failed(12),
+        &fixed,
+        replies,
         Reply::Value(12),
         &mut sink,
     )?;
@@ -158,6 +209,39 @@ thread 2
 n compare_exchange 7 9 acquire relaxed = err 12
 last
 n 12
+";
+    assert_eq!(rt; sink.bytes(), expected.as_bytes());
+    Ok(())
+}
+
+#[test]
+fn writes_a_fixed_value(rt: HostRuntime) -> Result<(), Fail> {
+    let target = builtin(b"full64").ok_or("no target")?;
+    assert!(rt; target_ok(&target));
+    let object = Declared {
+        name: Name::of(b"n").ok_or("no name")?,
+        kind: WIDE,
+        start: 7,
+    };
+    let work = work_of(rt.alloc(), target, object, ADD, SUBTRACT)?;
+    let fixed = fixed_of(&rt, rt.alloc(), WIDE, 7, work.threads())?;
+    let mut sink = MemSink::of(rt.alloc(), 256, 256, &[])?;
+    let replies = (Reply::Value(4), Reply::Unit);
+    write_report(
+        rt.alloc(),
+        &work,
+        &fixed,
+        replies,
+        Reply::Value(9),
+        &mut sink,
+    )?;
+    let expected = "target full64
+thread 1
+n fetch_add 5 = 4
+thread 2
+n sub 3 relaxed = unit
+last
+n 9 fixed
 ";
     assert_eq!(rt; sink.bytes(), expected.as_bytes());
     Ok(())

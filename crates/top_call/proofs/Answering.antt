@@ -1,7 +1,8 @@
 -- The replies of a run of a workload are values of their objects' kinds, so they can be reported.
-use Rattle.std.proofs.Common.{◌≡◌, ⊎_elim, ℕ, zero, suc, ◌+◌, ◌<◌, List, [], ◌∷◌, ◌++◌, refl, sym, subst, ap, ◌∙◌, arith}
-use Rattle.std.specs.Prelude.{Some, slice_get, IsSomeAnd, map}
+use Rattle.std.proofs.Common.{◌≡◌, ⊎_elim, ℕ, zero, suc, ◌+◌, ◌<◌, List, [], ◌∷◌, ◌++◌, length, refl, sym, subst, ap, ◌∙◌, arith}
+use Rattle.std.specs.Prelude.{Option, Some, slice_get, IsSomeAnd, map}
 use Rattle.std.specs.List.{AllByRecursion}
+use Rattle.std.proofs.lemmas.List.{length-map}
 use mathlib.Core.Logic.{dite}
 use native.Mathlib.Decide.{ℕ_discrete}
 use Rattle.op_table.specs.declared.kind.Kind.{Kind}
@@ -29,9 +30,11 @@ use Rattle.place_core.proofs.ShapeFacts.{kind_of-at}
 use Rattle.layout_plan.specs.Layout.{AreDeclared, shape_of}
 use Rattle.layout_plan.proofs.LaidObjects.{laid_is_declared, laid_has_cells}
 use Rattle.layout_plan.proofs.Laying.{laid_is_shape}
+use Rattle.ledger_sums.specs.Fixed.{lines_of, fixed_values_of}
+use Rattle.ledger_sums.proofs.Tallying.{length-fixed_from}
 use Rattle.work_lang.specs.Workload.{Workload, IsWork, HasLine, LineFits}
 use Rattle.work_lang.specs.Reading.{kind_at}
-use Rattle.report_text.specs.Report.{AnswerLines, AnswerThreads, AnswerObjects, lines_with, report_lines}
+use Rattle.report_text.specs.Report.{AnswerLines, AnswerThreads, AnswerObjects, fixed_of}
 use Rattle.report_text.proofs.LineKinds.{kind_read}
 use Rattle.top_call.specs.declared.outcome.Ended.{Ended}
 use Rattle.top_call.specs.Running.{IsRunOf}
@@ -166,12 +169,11 @@ last_answers e rs work ran same = let run = ran.1.run.run in
     subst (AnswerObjects e.work.objects) (sym same)
     (can_report e.work e.root.seen work.target work.objects work run.legal run.scripted run.ends.loads).last
 
--- lines with the replies of a history are its report's
-pub report_same : (w : Workload) (H : List Entry) (replies : List (List Reply)) (last : List Reply) → replies ≡ replies_from H 1 w.threads → last ≡ replies_by H 0 → lines_with w replies last ≡ report_lines w H
-report_same w H replies last threads loads =
-    ap (λ (r : List (List Reply)). lines_with w r last) threads ∙ ap (λ (l : List Reply). lines_with w (replies_from H 1 w.threads) l) loads
-
 -- ---- scripts of a workload
+
+-- the shape is laid for the target and the objects of the workload
+pub laid_for : (w : Workload) (S : Shape) (t : Target) (ds : List Declared) → S ≡ shape_of t ds → t ≡ w.target → ds ≡ w.objects → S ≡ shape_of w.target w.objects
+laid_for w S t ds laid target objects = laid ∙ ap (λ (u : Target). shape_of u ds) target ∙ ap (λ (os : List Declared). shape_of w.target os) objects
 
 cell_there : (ds : List Declared) (o : ℕ) (d : Declared) → slice_get ds o ≡ Some d → slice_get (cells_of ds) o ≡ Some (cell_of d)
 cell_there [] o d at = absurd cc
@@ -197,5 +199,23 @@ declared_fit ds [] fits = tt
 declared_fit ds (lines ∷ threads) fits = (script_fits ds lines fits.0, declared_fit ds threads fits.1)
 
 -- lines that fit the objects fit the shape that is laid for them
-pub laid_fit : (t : Target) (ds : List Declared) (threads : List (List Line)) → AllByRecursion (AllByRecursion (LineFits ds)) threads → ScriptsFit (cells_of_shape (shape_of t ds)) threads
-laid_fit t ds threads fits = subst (λ (cells : List Cell). ScriptsFit cells threads) (sym (laid_has_cells t ds)) (declared_fit ds threads fits)
+pub laid_fit : (w : Workload) (S : Shape) (threads : List (List Line)) → S ≡ shape_of w.target w.objects → threads ≡ w.threads → AllByRecursion (AllByRecursion (LineFits w.objects)) w.threads → ScriptsFit (cells_of_shape S) threads
+laid_fit w S threads laid same fits =
+    subst (λ (Z : Shape). ScriptsFit (cells_of_shape Z) threads) (sym laid)
+    (subst (λ (cells : List Cell). ScriptsFit cells threads) (sym (laid_has_cells w.target w.objects))
+    (subst (λ (ts : List (List Line)). ScriptsFit (cells_of w.objects) ts) (sym same) (declared_fit w.objects w.threads fits)))
+
+-- ---- fixed values
+
+-- the objects of the shape that is laid have the declared ones' fixed values
+pub laid_fixed : (w : Workload) (S : Shape) (threads : List (List Line)) (fixed : List (Option ℕ)) → S ≡ shape_of w.target w.objects → threads ≡ w.threads
+    → fixed ≡ fixed_values_of (cells_of_shape S) threads → fixed ≡ fixed_of w
+laid_fixed w S threads fixed laid same told =
+    told
+    ∙ ap (λ (Z : Shape). fixed_values_of (cells_of_shape Z) threads) laid
+    ∙ ap (λ (cells : List Cell). fixed_values_of cells threads) (laid_has_cells w.target w.objects)
+    ∙ ap (λ (ts : List (List Line)). fixed_values_of (cells_of w.objects) ts) same
+
+-- there is one for each object
+pub length-fixed_of : (w : Workload) → length (fixed_of w) ≡ length w.objects
+length-fixed_of w = length-fixed_from (lines_of w.threads) 0 (cells_of w.objects) ∙ length-map w.objects cell_of

@@ -96,31 +96,31 @@ fn no_call_is_lost(rt: HostRuntime) -> Result<(), Fail> {
             "word64",
             "object c u8 0\n",
             &[add, add, add, add],
-            "c 160\n",
+            "c 160 fixed\n",
         ),
         (
             "word64",
             "object a u8 255\nobject b u8 0\n",
             &[("a fetch_add 1", 1000), ("b fetch_sub 1", 1000)],
-            "a 231\nb 24\n",
+            "a 231 fixed\nb 24 fixed\n",
         ),
         (
             "word32",
             "object g u64 4294967295\n",
             &[("g fetch_add 1", 500), ("g fetch_add 1", 500)],
-            "g 4294968295\n",
+            "g 4294968295 fixed\n",
         ),
         (
             "section32",
             "object g i16 0\nobject h bool false\n",
             &[("g sub 1", 700), ("g sub 1", 700), ("h not", 701)],
-            "g -1400\nh true\n",
+            "g -1400 fixed\nh true fixed\n",
         ),
         (
             "word64",
             "object a u16 7\nobject b u16 0\n",
             &[("a compare_exchange_weak 7 7", 900), ("b fetch_add 3", 900)],
-            "a 7\nb 2700\n",
+            "a 7\nb 2700 fixed\n",
         ),
     ];
     for (target, objects, threads, last) in rows {
@@ -157,11 +157,11 @@ fn objects_under_one_lock_are_apart(rt: HostRuntime) -> Result<(), Fail> {
     let threads = [("q0 fetch_add 1", 100), ("q67 fetch_add 2", 100)];
     let text = text_of(alloc, "word64", &objects, &threads)?;
     let report = report_of(&rt, rt.alloc(), &text)?;
-    let mut last = String::from_str(alloc, "q0 100\n")?;
+    let mut last = String::from_str(alloc, "q0 100 fixed\n")?;
     for number in 1..67 {
-        last.push_str(&format!(in alloc; "q{number} 0\n")?)?;
+        last.push_str(&format!(in alloc; "q{number} 0 fixed\n")?)?;
     }
-    last.push_str("q67 200\n")?;
+    last.push_str("q67 200 fixed\n")?;
     assert_eq!(rt; last_of(&report), Some(last.as_str()));
     Ok(())
 }
@@ -177,6 +177,86 @@ fn a_section_serves_a_byte(rt: HostRuntime) -> Result<(), Fail> {
         report.as_str(),
         "target section32\nthread 1\nv store 9 = unit\nv load = 9\nlast\nv 9\n"
     );
+    Ok(())
+}
+
+/// One thread: an object that is only added to, one with a store too, and one with calls of two families.
+#[test]
+fn sums_are_fixed(rt: HostRuntime) -> Result<(), Fail> {
+    let text = "work 1
+target word32
+object a u8 250
+object b i16 -5
+object c u128 7
+thread
+a fetch_add 10
+b store 3
+c fetch_sub 8
+a sub 1
+b fetch_add 4
+c xor 1
+a load
+end
+";
+    let wanted = "target word32
+thread 1
+a fetch_add 10 = 250
+b store 3 = unit
+c fetch_sub 8 = 7
+a sub 1 = unit
+b fetch_add 4 = 3
+c xor 1 = unit
+a load = 3
+last
+a 3 fixed
+b 7
+c 340282366920938463463374607431768211454
+";
+    let report = report_of(&rt, rt.alloc(), text)?;
+    assert_eq!(rt; report.as_str(), wanted);
+    Ok(())
+}
+
+/// Two threads: an object for each of the other families, one that two of them share, and one without calls.
+#[test]
+fn each_family_is_fixed(rt: HostRuntime) -> Result<(), Fail> {
+    let text = "work 1
+target word64
+object flips u8 12
+object sets u16 1
+object clears u32 15
+object most i16 -5
+object least i16 -5
+object both i16 -5
+object still bool true
+thread
+flips fetch_xor 10
+sets or 4
+clears fetch_and 6
+most fetch_max 3
+least fetch_min 3
+both fetch_max 3
+end
+thread
+flips not
+flips bit_toggle 0
+sets bit_set 3
+clears bit_clear 1
+most fetch_max -9
+least fetch_min -9
+both fetch_min 3
+end
+";
+    let report = report_of(&rt, rt.alloc(), text)?;
+    let wanted = "flips 248 fixed
+sets 13 fixed
+clears 4 fixed
+most 3 fixed
+least -9 fixed
+both 3
+still true fixed
+";
+    assert_eq!(rt; last_of(&report), Some(wanted));
     Ok(())
 }
 
@@ -208,7 +288,7 @@ end
     let report = report_of(&rt, rt.alloc(), text)?;
     assert_eq!(rt;
         last_of(&report),
-        Some("ready true\nhits 3\nid 18446744073709551618\nhead 0x10\n")
+        Some("ready true\nhits 3 fixed\nid 18446744073709551618 fixed\nhead 0x10\n")
     );
     assert!(rt; report.contains("head compare_exchange 0x0 0x10 acq_rel acquire = ok 0x0\n"));
     Ok(())

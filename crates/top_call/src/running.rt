@@ -3,12 +3,13 @@
 ghost use Rattle.std.specs.Prelude.{◌≡◌, map, IfOk};
 ghost use Rattle.place_core.specs.Runs.{replies_by, replies_from};
 ghost use Rattle.work_lang.specs.Streams.{Writes};
-ghost use Rattle.report_text.specs.Report.{report_lines, items_of};
+ghost use Rattle.report_text.specs.Report.{report_lines, fixed_of, items_of};
 ghost use Rattle.top_call.specs.Running.{IsRunOf, RunsWork};
 
 use crate::outcome::{Ended, Outcome};
 use crate::status::Status;
 use layout_plan::lay;
+use ledger_sums::{Fixed, fixed_values};
 use op_table::NoMemory;
 use place_core::{Gate, Replies};
 use report_text::report;
@@ -18,16 +19,17 @@ use std::thread::Threads;
 use whole_run::run_whole;
 use work_lang::{Sink, Work, WriteEnd};
 
-/// A run that ended, the replies of each thread, and those of the last loads.
+/// A run that ended, the fixed values that were told before it, the replies of each thread, and those of the last loads.
 #[derive(Drop)]
 struct Ran {
     ended: Ended,
+    fixed: Fixed,
     replies: Vec<Replies>,
     last: Replies,
 }
 
-/// Lays the objects of a workload, and runs its scripts on an arena of that shape. The scripts are not copied: the run
-/// takes them, and the workload gets them back.
+/// Lays the objects of a workload, tells their fixed values, and runs its scripts on an arena of that shape. The scripts
+/// are not copied: the run takes them, and the workload gets them back.
 fn run_scripts<R: Threads + Wait + Sync, G: Gate>(
     rt: &R,
     alloc: Global,
@@ -35,10 +37,12 @@ fn run_scripts<R: Threads + Wait + Sync, G: Gate>(
     gate: &G,
 ) -> Result<Ran, NoMemory>
     ensures run { IfOk result (λ r. IsRunOf work r.ended) }
+    ensures fixed { IfOk result (λ r. r.fixed ≡ fixed_of work) }
     ensures replies { IfOk result (λ r. map items_of r.replies.items ≡ replies_from r.ended.root.seen 1 work.threads) }
     ensures last { IfOk result (λ r. r.last.items ≡ replies_by r.ended.root.seen 0) }
 {
     let shape = lay(alloc, work.target(), work.objects())?;
+    let fixed = fixed_values(alloc, &shape, work.threads())?;
     let (target, objects, scripts) = work.into_parts();
     let ran = run_whole(rt, alloc, shape, scripts, gate)?;
     Ok(Ran {
@@ -47,6 +51,7 @@ fn run_scripts<R: Threads + Wait + Sync, G: Gate>(
             root: ran.root,
             work: Work::of_parts(target, objects, ran.scripts),
         },
+        fixed,
         replies: ran.replies,
         last: ran.last,
     })
@@ -55,6 +60,7 @@ fn run_scripts<R: Threads + Wait + Sync, G: Gate>(
 /// Writes the report of a run.
 fn write_report<K: Sink>(ran: &Ran, sink: &mut K) -> Result<(), WriteEnd>
     requires run { IsRunOf ran.now.ended.work ran.now.ended }
+    requires fixed { ran.now.fixed ≡ fixed_of ran.now.ended.work }
     requires replies { map items_of ran.now.replies.items ≡ replies_from ran.now.ended.root.seen 1 ran.now.ended.work.threads }
     requires last { ran.now.last.items ≡ replies_by ran.now.ended.root.seen 0 }
     ensures { Writes K.taken K.faults sink.old sink.new result (report_lines ran.now.ended.work ran.now.ended.root.seen) }
@@ -62,7 +68,7 @@ fn write_report<K: Sink>(ran: &Ran, sink: &mut K) -> Result<(), WriteEnd>
     let work = &ran.ended.work;
     // Only for its clause, on what the type of a workload keeps.
     let _target = work.target();
-    report(work, &ran.replies, &ran.last, sink)
+    report(work, &ran.fixed, &ran.replies, &ran.last, sink)
 }
 
 /// Runs a workload, a thread for each script, and writes the report of the one history of its arena.

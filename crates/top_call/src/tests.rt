@@ -13,7 +13,8 @@ use work_lang::{MemSink, MemSource, Sink, Source, SureSink, SureSource};
 
 const FIRST: &[u8] = b"work 1\ntarget full64\nobject n u64 0\nthread\nn fetch_add 5\nn load\nend\n";
 
-const FIRST_REPORT: &[u8] = b"target full64\nthread 1\nn fetch_add 5 = 0\nn load = 5\nlast\nn 5\n";
+const FIRST_REPORT: &[u8] =
+    b"target full64\nthread 1\nn fetch_add 5 = 0\nn load = 5\nlast\nn 5 fixed\n";
 
 fn words_of(alloc: Global, words: &[&str]) -> Result<Vec<String>, Fail> {
     let mut made = Vec::new(alloc);
@@ -162,13 +163,13 @@ fn serves_a_text_without_a_thread(rt: HostRuntime) -> Result<(), Fail> {
     assert_eq!(rt; status, Status::Done);
     assert_eq!(rt;
         sink.bytes(),
-        b"target full64\nlast\ntop 18446744073709551615\n".as_slice()
+        b"target full64\nlast\ntop 18446744073709551615 fixed\n".as_slice()
     );
     let mut counted = SureSink::new();
     let mut again = SureSource::of(text);
     let status = portable_call(&rt, alloc, &run, &mut again, &mut counted, &OpenGate).status;
     assert_eq!(rt; status, Status::Done);
-    assert_eq!(rt; counted.taken(), 44);
+    assert_eq!(rt; counted.taken(), 50);
     Ok(())
 }
 
@@ -183,7 +184,7 @@ fn an_addition_wraps(rt: HostRuntime) -> Result<(), Fail> {
     let status = portable_call(&rt, alloc, &run, &mut source, &mut sink, &OpenGate).status;
     assert_eq!(rt; status, Status::Done);
     let report =
-        b"target full64\nthread 1\nn fetch_add 2 = 18446744073709551615\nm load = 7\nn load = 1\nlast\nn 1\nm 7\n";
+        b"target full64\nthread 1\nn fetch_add 2 = 18446744073709551615\nm load = 7\nn load = 1\nlast\nn 1 fixed\nm 7 fixed\n";
     assert_eq!(rt; sink.bytes(), report.as_slice());
     Ok(())
 }
@@ -239,9 +240,9 @@ last
 a -128
 b 247
 c -32768
-d 8
+d 8 fixed
 e 4
-m 0";
+m 0 fixed";
     assert_report(&rt, rt.alloc(), objects, calls, report)
 }
 

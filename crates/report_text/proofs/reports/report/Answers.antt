@@ -12,20 +12,20 @@ write_threads-requires-clause-fits g c =
 
 pub returns-in-Err : goal.returns-in-Err
 returns-in-Err g c =
-    writes_same (sym (lines_made c.args.work.now _ _ _ _ _ c.target-target.ensures.value c.objects-objects.ensures.value c.threads-threads.ensures.value))
+    writes_same (sym (lines_made c.args.work.now _ _ _ _ _ _ c.target-target.ensures.value c.objects-objects.ensures.value c.threads-threads.ensures.value))
     (writes_fail _ refl c.in-Err.is c.write_target.ensures)
 
 pub returns-in-Err-write_threads : goal.returns-in-Err-write_threads
 returns-in-Err-write_threads g c =
-    writes_same (sym (lines_made c.args.work.now _ _ _ _ _ c.target-target.ensures.value c.objects-objects.ensures.value c.threads-threads.ensures.value))
+    writes_same (sym (lines_made c.args.work.now _ _ _ _ _ _ c.target-target.ensures.value c.objects-objects.ensures.value c.threads-threads.ensures.value))
     (writes_then refl c.in-Ok.is c.write_target.ensures (writes_fail _ refl c.in-Err-write_threads.is c.write_threads.ensures))
 
 pub returns-in-Err-write_all : goal.returns-in-Err-write_all
 returns-in-Err-write_all g c =
-    writes_same (sym (lines_made c.args.work.now _ _ _ _ _ c.target-target.ensures.value c.objects-objects.ensures.value c.threads-threads.ensures.value))
+    writes_same (sym (lines_made c.args.work.now _ _ _ _ _ _ c.target-target.ensures.value c.objects-objects.ensures.value c.threads-threads.ensures.value))
     (writes_then refl c.in-Ok.is c.write_target.ensures (writes_then refl c.in-Ok-write_threads.is c.write_threads.ensures (writes_fail _ refl c.in-Err-write_all.is c.write_all.ensures)))
 
 pub returns : goal.returns
 returns g c =
-    writes_same (sym (lines_made c.args.work.now _ _ _ _ _ c.target-target.ensures.value c.objects-objects.ensures.value c.threads-threads.ensures.value))
+    writes_same (sym (lines_made c.args.work.now _ _ _ _ _ _ c.target-target.ensures.value c.objects-objects.ensures.value c.threads-threads.ensures.value))
     (writes_then refl c.in-Ok.is c.write_target.ensures (writes_then refl c.in-Ok-write_threads.is c.write_threads.ensures (writes_then refl c.in-Ok-write_all.is c.write_all.ensures c.write_last.ensures)))

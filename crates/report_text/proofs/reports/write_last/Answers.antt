@@ -7,6 +7,9 @@ use Rattle.report_text.proofs.reports.write_last.Goals as goal
 pub bounds-objects-i : goal.bounds-objects-i
 bounds-objects-i g c = omega (arith, pairs_length _ c.args.objects.now c.args.last.now.items c.requires.answers)
 
+pub at-told-requires : goal.at-told-requires
+at-told-requires g c = omega (arith, pairs_length _ c.args.objects.now c.args.last.now.items c.requires.answers)
+
 pub write_last_value-requires-clause-sound : goal.write_last_value-requires-clause-sound
 write_last_value-requires-clause-sound g c =
     let there = get_at c.args.objects.now c.objects.i c.index-objects-i.result (omega (arith, pairs_length _ c.args.objects.now c.args.last.now.items c.requires.answers)) c.index-objects-i.is in
@@ -20,15 +23,15 @@ write_last_value-requires-clause-fits g c =
 pub returns-in-Err : goal.returns-in-Err
 returns-in-Err g c =
     let there = get_at c.args.objects.now c.objects.i c.index-objects-i.result (omega (arith, pairs_length _ c.args.objects.now c.args.last.now.items c.requires.answers)) c.index-objects-i.is in
-    wrote_stops _ (last_lines_at c.args.objects.now c.args.last.now.items c.objects.i c.index-objects-i.result c.at.result.now there c.at.ensures) c.in-Err.is c.objects.invariant.wrote c.write_last_value.ensures
+    wrote_stops _ (last_lines_at c.args.objects.now c.args.last.now.items c.args.fixed.now c.objects.i c.index-objects-i.result c.at.result.now c.at-told.result there c.at.ensures c.at-told.ensures) c.in-Err.is c.objects.invariant.wrote c.write_last_value.ensures
 
 pub objects-preserved : goal.objects-preserved
 objects-preserved g c =
     let there = get_at c.args.objects.now c.objects.i c.index-objects-i.result (omega (arith, pairs_length _ c.args.objects.now c.args.last.now.items c.requires.answers)) c.index-objects-i.is in
     record {
       within = omega arith;
-      wrote = wrote_more (last_lines_at c.args.objects.now c.args.last.now.items c.objects.i c.index-objects-i.result c.at.result.now there c.at.ensures) c.in-Ok.is c.objects.invariant.wrote c.write_last_value.ensures;
+      wrote = wrote_more (last_lines_at c.args.objects.now c.args.last.now.items c.args.fixed.now c.objects.i c.index-objects-i.result c.at.result.now c.at-told.result there c.at.ensures c.at-told.ensures) c.in-Ok.is c.objects.invariant.wrote c.write_last_value.ensures;
     }
 
 pub returns : goal.returns
-returns g c = wrote_all _ (last_lines_end c.args.objects.now c.args.last.now.items c.objects.i (omega (arith, pairs_length _ c.args.objects.now c.args.last.now.items c.requires.answers))) c.objects.invariant.wrote
+returns g c = wrote_all _ (last_lines_end c.args.objects.now c.args.last.now.items c.args.fixed.now c.objects.i (omega (arith, pairs_length _ c.args.objects.now c.args.last.now.items c.requires.answers))) c.objects.invariant.wrote
