@@ -19,7 +19,7 @@ on_target (Some t) w = record w { target = t }
 abbrev pub target_row : List ℕ × Target → List ℕ
 target_row row = row.0 ++ 32 ∷ (description_text row.1 ++ 10 ∷ [])
 
--- the five built-in targets
+-- the built-in targets
 abbrev pub targets_lines : List (List ℕ)
 targets_lines = map target_row builtins
 
