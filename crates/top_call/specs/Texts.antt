@@ -2,6 +2,7 @@
 use Rattle.std.specs.Prelude.{ℕ, List, [], ◌++◌, ◌∷◌, map, Option, Some, None}
 use Rattle.target_desc.specs.declared.target.Target.{Target}
 use Rattle.target_desc.specs.Target.{builtins}
+use Rattle.target_desc.specs.Spelling.{IsName}
 use Rattle.target_desc.specs.Text.{description_text}
 use Rattle.work_lang.specs.Streams.{text_of}
 use Rattle.work_lang.specs.Workload.{Workload}
@@ -14,6 +15,10 @@ use Rattle.top_call.specs.declared.command.Command.TheVariants.{Run, Check, Plan
 abbrev pub on_target : Option Target → Workload → Workload
 on_target None w = w
 on_target (Some t) w = record w { target = t }
+
+-- a row of the table of built-in targets
+abbrev pub IsRow : List ℕ × Target → Type 0
+IsRow row = IsName row.0 row.1
 
 -- the line of a built-in target: its name and its description
 abbrev pub target_row : List ℕ × Target → List ℕ

@@ -1,10 +1,11 @@
 //! What the commands write that describe and don't run.
 
-ghost use Rattle.std.specs.Prelude.{◌≡◌, true, [], ◌∷◌};
+ghost use Rattle.std.specs.Prelude.{◌≡◌, true, [], ◌∷◌, map};
+ghost use Rattle.std.specs.List.{AllByRecursion};
 ghost use Rattle.target_desc.specs.Spelling.{IsName};
 ghost use Rattle.work_lang.specs.Streams.{Writes};
 ghost use Rattle.top_call.specs.Commands.{reads, described_by, HasTarget, IsTargetAsked};
-ghost use Rattle.top_call.specs.Texts.{on_target, description_of, target_row, targets_lines, targets_text};
+ghost use Rattle.top_call.specs.Texts.{IsRow, on_target, description_of, target_row, targets_lines, targets_text};
 ghost use Rattle.top_call.specs.Writing.{WritesOwn, TellsUnread};
 
 use crate::command::Command;
@@ -87,17 +88,26 @@ fn write_row<K: Sink>(name: &str, target: &Target, sink: &mut K) -> Result<(), W
     write_all(line.bytes(), sink)
 }
 
-/// Writes the built-in targets, each as its name and its description.
-fn write_targets<K: Sink>(sink: &mut K) -> Result<(), WriteEnd>
-    ensures { Writes K.taken K.faults sink.old sink.new result targets_lines }
+/// Writes built-in targets, each as its name and its description.
+fn write_rows<K: Sink>(rows: &[(&str, Target)], sink: &mut K) -> Result<(), WriteEnd>
+    requires { AllByRecursion IsRow (map (λ row. (row.0.now, row.1)) rows.now) }
+    ensures { Writes K.taken K.faults sink.old sink.new result
+        (map target_row (map (λ row. (row.0.now, row.1)) rows.now)) }
 {
-    for row in builtins() {
+    for row in rows {
         match write_row(row.0, &row.1, sink) {
             Ok(()) => {}
             Err(end) => return Err(end),
         }
     }
     Ok(())
+}
+
+/// Writes all built-in targets.
+fn write_targets<K: Sink>(sink: &mut K) -> Result<(), WriteEnd>
+    ensures { Writes K.taken K.faults sink.old sink.new result targets_lines }
+{
+    write_rows(builtins(), sink)
 }
 
 /// Writes the text of the built-in targets.

@@ -1,12 +1,12 @@
-use Rattle.work_lang.proofs.Pieces.{wrote_more, wrote_stops}
-use Rattle.top_call.proofs.TargetRows.{named_at, lines_at}
+use Rattle.std.proofs.Common.{sym, subst, ap, map}
+use Rattle.std.specs.List.{AllByRecursion}
+use Rattle.work_lang.proofs.Pieces.{writes_same}
+use Rattle.top_call.specs.Texts.{IsRow, target_row}
+use Rattle.top_call.proofs.TargetRows.{all_named}
 use Rattle.top_call.proofs.describing.write_targets.Goals as goal
 
-pub write_row-requires : goal.write_row-requires
-write_row-requires g c = named_at (λ row. (row.0.now, row.1)) c.builtins-row-items.result.now c.loop-row.row-index _ c.loop-row-test.true c.builtins-row-items.ensures
+pub write_rows-requires : goal.write_rows-requires
+write_rows-requires g c = subst (AllByRecursion IsRow) (sym c.builtins.ensures) all_named
 
-pub returns-in-Err : goal.returns-in-Err
-returns-in-Err g c = wrote_stops _ (lines_at (λ row. (row.0.now, row.1)) c.builtins-row-items.result.now c.loop-row.row-index _ c.loop-row-test.true) c.in-Err.is c.loop-row.invariant c.write_row.ensures
-
-pub loop-row-preserved : goal.loop-row-preserved
-loop-row-preserved g c = wrote_more (lines_at (λ row. (row.0.now, row.1)) c.builtins-row-items.result.now c.loop-row.row-index _ c.loop-row-test.true) c.in-Ok.is c.loop-row.invariant c.write_row.ensures
+pub returns : goal.returns
+returns g c = writes_same (ap (map target_row) (sym c.builtins.ensures)) c.write_rows.ensures

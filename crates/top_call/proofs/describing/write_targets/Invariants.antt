@@ -1,8 +1,0 @@
-use Rattle.std.proofs.Common.{map, drop}
-use Rattle.work_lang.specs.Streams.{WroteUpTo}
-use Rattle.top_call.specs.Texts.{target_row, targets_lines}
-use Rattle.top_call.proofs.describing.write_targets.Given as goal
-
--- the rows before this one were written
-abbrev pub invariant-loop-row : goal.invariant-loop-row
-invariant-loop-row g l = WroteUpTo g.K.Sink.taken g.K.Sink.faults l.fn.sink l.sink targets_lines (map target_row (map (λ row. (row.0.now, row.1)) (drop l.row-index l.row-items)))
