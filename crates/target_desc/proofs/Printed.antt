@@ -76,7 +76,7 @@ bits_small : (n : ℕ) → (n ≡ 32) ⊎ (n ≡ 64) → n ≤ 67
 bits_small n (inl e) = omega arith
 bits_small n (inr e) = omega arith
 
-name_plain : (name : List ℕ) (t : Target) → IsName name t → IsWordUpTo 9 name
+pub name_plain : (name : List ℕ) (t : Target) → IsName name t → IsWordUpTo 9 name
 name_plain name t is = tested 9 name (row_passes (λ row. is_word_up_to 9 row.0) builtins refl name t is)
 
 -- ---- words of a text

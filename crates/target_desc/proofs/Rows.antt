@@ -2,7 +2,7 @@
 use Rattle.std.proofs.Common.{◌≡◌, ◌⊎◌, Bool, true, false, not, ◌&&◌, ◌||◌, cond, leb, eqb, ℕ, ◌+◌, ◌<◌, List, [], ◌∷◌, length, map, drop, get_or, Option, Some, None, refl, sym, ap, ◌∙◌, inl, inr}
 use Rattle.std.proofs.Math.Bool.{beq}
 use Rattle.std.specs.Str.{bytes_eq}
-use Rattle.std.specs.List.{list_all}
+use Rattle.std.specs.List.{list_all, AllByRecursion}
 use Rattle.std.proofs.lemmas.Bool.{and_parts, eqb-true, leb-true}
 use Rattle.std.proofs.lemmas.List.{at_drop_more}
 use Rattle.std.proofs.lemmas.Slice.Eq.{bytes_eq-Decides}
@@ -83,6 +83,11 @@ pub row_passes : (test : List ℕ × Target → Bool) (rows : List (List ℕ × 
 row_passes test [] all name t none = absurd none
 row_passes test (row ∷ rows) all name t (inl is) = (λ i. test (is.0 i, is.1 i)) ∙ (and_parts (test row) (list_all test rows) all).0
 row_passes test (row ∷ rows) all name t (inr later) = row_passes test rows (and_parts (test row) (list_all test rows) all).1 name t later
+
+-- what holds of each name and its target holds of each row
+pub all_rows : (P : List ℕ × Target → Type 0) (rows : List (List ℕ × Target)) → ((name : List ℕ) (t : Target) → HasRow rows name t → P (name, t)) → AllByRecursion P rows
+all_rows P [] each = tt
+all_rows P (row ∷ rows) each = (each row.0 row.1 (inl (refl, refl)), all_rows P rows (λ name t is. each name t (inr is)))
 
 abbrev gives : {A : Type 0} → (A → A → Bool) → Option A → A → Bool
 gives same None x = false

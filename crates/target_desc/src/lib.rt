@@ -8,8 +8,8 @@ mod target;
 mod text;
 
 pub use reading::{TargetFault, read_target, target_at};
-pub use target::{Target, builtin, target_ok};
-pub use text::push_target;
+pub use target::{Target, builtin, builtins, target_ok};
+pub use text::{push_description, push_target};
 
 #[cfg(test)]
 mod tests;

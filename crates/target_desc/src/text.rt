@@ -17,7 +17,8 @@ fn push_next(line: &mut LineBuf, word: &str)
     line.push_text(word.as_bytes());
 }
 
-fn push_description(line: &mut LineBuf, target: &Target)
+/// Adds the description of a target, at most 40 bytes.
+pub fn push_description(line: &mut LineBuf, target: &Target)
     requires { length line.old + length (description_text target.now) ≤ 256 }
     ensures { line.new ≡ line.old ++ description_text target.now }
 {

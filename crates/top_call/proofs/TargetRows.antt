@@ -1,63 +1,27 @@
--- The lines of the built-in targets, byte by byte.
-use Rattle.std.proofs.Common.{◌≡◌, ℕ, ◌≤◌, Bool, true, false, List, [], ◌∷◌, ◌++◌, Ok, refl, sym, ◌∙◌, arith}
-use Rattle.std.specs.Prelude.{codes}
-use Rattle.std.specs.Fmt.{decimal}
-use Rattle.op_table.specs.declared.order.StepSet.{StepSet}
-use Rattle.op_table.specs.declared.kind.Width.TheVariants.{W32}
-use Rattle.op_table.specs.Value.{parsed_value}
-use Rattle.op_table.specs.Words.{integer}
-use Rattle.op_table.proofs.ValueTexts.{value_has_one_text}
+-- The lines of the built-in targets, row by row.
+use Rattle.std.proofs.Common.{◌≡◌, ℕ, zero, suc, ◌+◌, ◌<◌, ◌≤◌, List, [], ◌∷◌, ◌++◌, length, map, drop, get_or, arith}
+use Rattle.std.specs.List.{AllByRecursion}
+use Rattle.std.proofs.lemmas.List.{at_drop_more}
 use Rattle.target_desc.specs.declared.target.Target.{Target}
-use Rattle.target_desc.specs.Target.{no_steps, all_steps}
-use Rattle.target_desc.specs.Fields.{packed_word, steps_word, section_word}
-use Rattle.target_desc.proofs.Described.{number_text}
-use Rattle.top_call.specs.Texts.{target_row, targets_lines}
+use Rattle.target_desc.specs.Target.{builtins}
+use Rattle.target_desc.specs.Spelling.{IsName}
+use Rattle.target_desc.specs.Text.{description_text}
+use Rattle.target_desc.proofs.Rows.{named_is_target, all_rows}
+use Rattle.target_desc.proofs.Printed.{name_plain, described_short}
+use Rattle.top_call.specs.Texts.{IsRow, target_row}
 
--- a number that a text spells is printed as it
-printed : (n : ℕ) (text : List ℕ) → n ≤ 67 → parsed_value (integer false W32) text ≡ Ok n → decimal n ≡ text
-printed n text most read = sym (value_has_one_text (integer false W32) text n (λ e. cc) read ∙ number_text n most)
+pub all_named : AllByRecursion IsRow builtins
+all_named = all_rows IsRow builtins (λ name t is. is)
 
-one : decimal 1 ≡ codes "1"
-unfolding parsed_value
-one = printed 1 (codes "1") (omega arith) refl
+pub row_is_short : (name : List ℕ) (t : Target) → IsName name t → length name + length (description_text t) ≤ 49
+row_is_short name t is = omega (arith, (name_plain name t is).short, described_short t (named_is_target name t is))
 
-thirty_two : decimal 32 ≡ codes "32"
-unfolding parsed_value
-thirty_two = printed 32 (codes "32") (omega arith) refl
+pub named_at : {R : Type 0} (row_of : R → List ℕ × Target) (rows : List R) (i : ℕ) (default : R) → i < length rows → AllByRecursion IsRow (map row_of rows) → IsRow (row_of (get_or rows i default))
+named_at row_of [] i default within all = absurd (omega arith)
+named_at row_of (row ∷ rows) zero default within all = all.0
+named_at row_of (row ∷ rows) (suc i) default within all = named_at row_of rows i default (omega arith) all.1
 
-sixty_four : decimal 64 ≡ codes "64"
-unfolding parsed_value
-sixty_four = printed 64 (codes "64") (omega arith) refl
-
-sixty_seven : decimal 67 ≡ codes "67"
-unfolding parsed_value
-sixty_seven = printed 67 (codes "67") (omega arith) refl
-
-row_text : (name : List ℕ) (t : Target) (bits locks : List ℕ) → decimal t.word_bits ≡ bits → decimal t.locks ≡ locks
-    → target_row (name, t) ≡ name ++ 32 ∷ ((bits ++ 32 ∷ (packed_word t.packed ++ 32 ∷ (steps_word t.steps ++ 32 ∷ (locks ++ 32 ∷ section_word t.section)))) ++ 10 ∷ [])
-row_text name t bits locks e f = rw (e, f) refl
-
-abbrev target : ℕ → Bool → StepSet → ℕ → Bool → Target
-target bits packed steps locks section = record { word_bits = bits; packed = packed; steps = steps; locks = locks; section = section }
-
-full64_row : target_row (codes "full64", target 64 false all_steps 67 false) ≡ codes "full64 64 apart swap+add+bits+order 67 locks\n"
-full64_row = row_text (codes "full64") (target 64 false all_steps 67 false) (codes "64") (codes "67") sixty_four sixty_seven
-
-word64_row : target_row (codes "word64", target 64 true all_steps 67 false) ≡ codes "word64 64 packed swap+add+bits+order 67 locks\n"
-word64_row = row_text (codes "word64") (target 64 true all_steps 67 false) (codes "64") (codes "67") sixty_four sixty_seven
-
-word32_row : target_row (codes "word32", target 32 true all_steps 67 false) ≡ codes "word32 32 packed swap+add+bits+order 67 locks\n"
-word32_row = row_text (codes "word32") (target 32 true all_steps 67 false) (codes "32") (codes "67") thirty_two sixty_seven
-
-cas32_row : target_row (codes "cas32", target 32 true no_steps 67 false) ≡ codes "cas32 32 packed none 67 locks\n"
-cas32_row = row_text (codes "cas32") (target 32 true no_steps 67 false) (codes "32") (codes "67") thirty_two sixty_seven
-
-section32_row : target_row (codes "section32", target 32 false no_steps 1 true) ≡ codes "section32 32 apart none 1 section\n"
-section32_row = row_text (codes "section32") (target 32 false no_steps 1 true) (codes "32") (codes "1") thirty_two one
-
-rows : (a b c d e a' b' c' d' e' : List ℕ) → a ≡ a' → b ≡ b' → c ≡ c' → d ≡ d' → e ≡ e' → a ∷ b ∷ c ∷ d ∷ e ∷ [] ≡ (a' ∷ []) ++ ((b' ∷ []) ++ ((c' ∷ []) ++ ((d' ∷ []) ++ (e' ∷ []))))
-rows a b c d e a' b' c' d' e' p q r s t = cc
-
--- the five lines, as they are written
-pub targets_made : targets_lines ≡ (codes "full64 64 apart swap+add+bits+order 67 locks\n" ∷ []) ++ ((codes "word64 64 packed swap+add+bits+order 67 locks\n" ∷ []) ++ ((codes "word32 32 packed swap+add+bits+order 67 locks\n" ∷ []) ++ ((codes "cas32 32 packed none 67 locks\n" ∷ []) ++ (codes "section32 32 apart none 1 section\n" ∷ []))))
-targets_made = rows _ _ _ _ _ _ _ _ _ _ full64_row word64_row word32_row cas32_row section32_row
+-- the line of the row at index i, and those behind it
+pub lines_at : {R : Type 0} (row_of : R → List ℕ × Target) (rows : List R) (i : ℕ) (default : R) → i < length rows
+    → map target_row (map row_of (drop i rows)) ≡ (target_row (row_of (get_or rows i default)) ∷ []) ++ map target_row (map row_of (drop (i + 1) rows))
+lines_at row_of rows i default within = at_drop_more (λ l. map target_row (map row_of l)) rows i default within

@@ -2,6 +2,7 @@
 use Rattle.std.specs.Prelude.{ℕ, List, [], ◌++◌, ◌∷◌, map, Option, Some, None}
 use Rattle.target_desc.specs.declared.target.Target.{Target}
 use Rattle.target_desc.specs.Target.{builtins}
+use Rattle.target_desc.specs.Spelling.{IsName}
 use Rattle.target_desc.specs.Text.{description_text}
 use Rattle.work_lang.specs.Streams.{text_of}
 use Rattle.work_lang.specs.Workload.{Workload}
@@ -15,11 +16,15 @@ abbrev pub on_target : Option Target → Workload → Workload
 on_target None w = w
 on_target (Some t) w = record w { target = t }
 
+-- a row of the table of built-in targets
+abbrev pub IsRow : List ℕ × Target → Type 0
+IsRow row = IsName row.0 row.1
+
 -- the line of a built-in target: its name and its description
 abbrev pub target_row : List ℕ × Target → List ℕ
 target_row row = row.0 ++ 32 ∷ (description_text row.1 ++ 10 ∷ [])
 
--- the five built-in targets
+-- the built-in targets
 abbrev pub targets_lines : List (List ℕ)
 targets_lines = map target_row builtins
 

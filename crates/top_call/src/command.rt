@@ -16,7 +16,7 @@ pub enum Command {
     Check,
     /// Reads a workload and writes its plan table: on its own target, or on this one.
     Plan { target: Option<Target> },
-    /// Writes the five built-in targets, and reads nothing.
+    /// Writes the built-in targets, and reads nothing.
     Targets,
 }
 
@@ -31,7 +31,7 @@ pub enum WordsFault {
     NoMemory,
 }
 
-/// The target that the words after `run` and `plan` name: `--target` and one of the five names, or no words at all.
+/// The target that the words after `run` and `plan` name: `--target` and the name of a built-in target, or no words at all.
 fn target_named(words: &[String]) -> Result<Option<Target>, WordsFault>
     ensures value { result ≡ target_named words.now }
     ensures target { IfOk result (λ t. IsTargetAsked t) }
@@ -63,7 +63,7 @@ fn alone(command: Command, words: &[String]) -> Result<Command, WordsFault>
     }
 }
 
-/// What the words ask for, the program's name apart: `run` and `plan`, each alone or with `--target` and one of the five
+/// What the words ask for, the program's name apart: `run` and `plan`, each alone or with `--target` and one of the
 /// names of targets, `check` and `targets`. Usage comes exactly where the words are none of these; memory isn't asked
 /// for yet.
 pub fn read_words(_alloc: Global, words: &[String]) -> Result<Command, WordsFault>

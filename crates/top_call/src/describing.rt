@@ -1,9 +1,11 @@
 //! What the commands write that describe and don't run.
 
-ghost use Rattle.std.specs.Prelude.{◌≡◌, true};
+ghost use Rattle.std.specs.Prelude.{◌≡◌, true, [], ◌∷◌, map};
+ghost use Rattle.std.specs.List.{AllByRecursion};
+ghost use Rattle.target_desc.specs.Spelling.{IsName};
 ghost use Rattle.work_lang.specs.Streams.{Writes};
 ghost use Rattle.top_call.specs.Commands.{reads, described_by, HasTarget, IsTargetAsked};
-ghost use Rattle.top_call.specs.Texts.{on_target, description_of, targets_lines, targets_text};
+ghost use Rattle.top_call.specs.Texts.{IsRow, on_target, description_of, target_row, targets_lines, targets_text};
 ghost use Rattle.top_call.specs.Writing.{WritesOwn, TellsUnread};
 
 use crate::command::Command;
@@ -12,9 +14,9 @@ use crate::input::Unread;
 use crate::status::Status;
 use layout_plan::lay;
 use lock_free_info::write_plan;
-use op_table::NoMemory;
+use op_table::{LineBuf, NoMemory};
 use std::alloc::Global;
-use target_desc::Target;
+use target_desc::{Target, builtins, push_description};
 use work_lang::{Sink, Work, WriteEnd, print_work, write_all};
 
 /// The workload on the target that is asked for, if one is.
@@ -72,30 +74,43 @@ pub(crate) fn describe_work<K: Sink>(
     }
 }
 
-/// Writes each built-in target as its name and its description.
+/// Writes a built-in target as its name and its description.
+#[tactic(auto, using(crate::proofs::TargetRows::row_is_short))]
+fn write_row<K: Sink>(name: &str, target: &Target, sink: &mut K) -> Result<(), WriteEnd>
+    requires { IsName name.now target.now }
+    ensures { Writes K.taken K.faults sink.old sink.new result (target_row (name.now, target.now) ∷ []) }
+{
+    let mut line = LineBuf::new();
+    line.push_text(name.as_bytes());
+    line.push_text(b" ");
+    push_description(&mut line, target);
+    line.push_text(b"\n");
+    write_all(line.bytes(), sink)
+}
+
+/// Writes built-in targets, each as its name and its description.
+fn write_rows<K: Sink>(rows: &[(&str, Target)], sink: &mut K) -> Result<(), WriteEnd>
+    requires { AllByRecursion IsRow (map (λ row. (row.0.now, row.1)) rows.now) }
+    ensures { Writes K.taken K.faults sink.old sink.new result
+        (map target_row (map (λ row. (row.0.now, row.1)) rows.now)) }
+{
+    for row in rows {
+        match write_row(row.0, &row.1, sink) {
+            Ok(()) => {}
+            Err(end) => return Err(end),
+        }
+    }
+    Ok(())
+}
+
+/// Writes all built-in targets.
 fn write_targets<K: Sink>(sink: &mut K) -> Result<(), WriteEnd>
     ensures { Writes K.taken K.faults sink.old sink.new result targets_lines }
 {
-    match write_all(b"full64 64 apart swap+add+bits+order 67 locks\n", sink) {
-        Ok(()) => {}
-        Err(end) => return Err(end),
-    }
-    match write_all(b"word64 64 packed swap+add+bits+order 67 locks\n", sink) {
-        Ok(()) => {}
-        Err(end) => return Err(end),
-    }
-    match write_all(b"word32 32 packed swap+add+bits+order 67 locks\n", sink) {
-        Ok(()) => {}
-        Err(end) => return Err(end),
-    }
-    match write_all(b"cas32 32 packed none 67 locks\n", sink) {
-        Ok(()) => {}
-        Err(end) => return Err(end),
-    }
-    write_all(b"section32 32 apart none 1 section\n", sink)
+    write_rows(builtins(), sink)
 }
 
-/// Writes the text of the five built-in targets.
+/// Writes the text of the built-in targets.
 #[tactic(auto, unfolding(crate::specs::Texts::targets_text))]
 pub(crate) fn tell_targets<K: Sink>(sink: &mut K) -> Status
     ensures { WritesOwn K.taken K.faults sink.old sink.new targets_text result }

@@ -96,7 +96,7 @@ fn run_input<R: Threads + Wait + Sync, S: Source, K: Sink, G: Gate>(
 }
 
 /// Does what describes and doesn't run: writes the canonical text of a workload that it reads (`check`), its plan table
-/// (`plan`), or the five built-in targets (`targets`), which leaves the source as it was. It always returns. At the
+/// (`plan`), or the built-in targets (`targets`), which leaves the source as it was. It always returns. At the
 /// words of `run` it answers Usage, as at words that are no form. The status says how it ended, and what was read and
 /// written then; it never reads more than 8,388,609 bytes.
 pub fn describe<S: Source, K: Sink>(

@@ -1,21 +1,12 @@
-use Rattle.std.proofs.Common.{refl}
-use Rattle.work_lang.proofs.Pieces.{writes_fail, writes_then}
-use Rattle.top_call.proofs.TargetRows.{targets_made}
+use Rattle.std.proofs.Common.{sym, subst, ap, map}
+use Rattle.std.specs.List.{AllByRecursion}
+use Rattle.work_lang.proofs.Pieces.{writes_same}
+use Rattle.top_call.specs.Texts.{IsRow, target_row}
+use Rattle.top_call.proofs.TargetRows.{all_named}
 use Rattle.top_call.proofs.describing.write_targets.Goals as goal
 
-pub returns-in-Err : goal.returns-in-Err
-returns-in-Err g c = writes_fail _ targets_made c.in-Err.is c.write_all.ensures
-
-pub returns-in-Err-write_all : goal.returns-in-Err-write_all
-returns-in-Err-write_all g c = writes_then targets_made c.in-Ok.is c.write_all.ensures (writes_fail _ refl c.in-Err-write_all.is c.write_all-2.ensures)
-
-pub returns-in-Err-write_all-2 : goal.returns-in-Err-write_all-2
-returns-in-Err-write_all-2 g c = writes_then targets_made c.in-Ok.is c.write_all.ensures (writes_then refl c.in-Ok-write_all.is c.write_all-2.ensures (writes_fail _ refl c.in-Err-write_all-2.is c.write_all-3.ensures))
-
-pub returns-in-Err-write_all-3 : goal.returns-in-Err-write_all-3
-returns-in-Err-write_all-3 g c =
-    writes_then targets_made c.in-Ok.is c.write_all.ensures (writes_then refl c.in-Ok-write_all.is c.write_all-2.ensures (writes_then refl c.in-Ok-write_all-2.is c.write_all-3.ensures (writes_fail _ refl c.in-Err-write_all-3.is c.write_all-4.ensures)))
+pub write_rows-requires : goal.write_rows-requires
+write_rows-requires g c = subst (AllByRecursion IsRow) (sym c.builtins.ensures) all_named
 
 pub returns : goal.returns
-returns g c =
-    writes_then targets_made c.in-Ok.is c.write_all.ensures (writes_then refl c.in-Ok-write_all.is c.write_all-2.ensures (writes_then refl c.in-Ok-write_all-2.is c.write_all-3.ensures (writes_then refl c.in-Ok-write_all-3.is c.write_all-4.ensures c.write_all-5.ensures)))
+returns g c = writes_same (ap (map target_row) (sym c.builtins.ensures)) c.write_rows.ensures
