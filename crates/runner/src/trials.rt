@@ -11,7 +11,7 @@ ghost use Rattle.runner.specs.Scripts.{IsReady};
 use crate::Worker;
 use layout_plan::{are_declared, lay};
 use op_table::{Call, Class, Kind, Order, Width, call_fits};
-use place_core::{Declared, MOST_IN_SHAPE, Gate, Line, Name, Replies, Script, Shape};
+use place_core::{Declared, Gate, Line, MOST_IN_SHAPE, Name, Replies, Script, Shape};
 use seat_views::{Arena, Root};
 use std::alloc::Global;
 use std::sync::atomic::{AtomicBool, Ordering};
