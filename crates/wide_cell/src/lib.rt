@@ -3,6 +3,7 @@
 
 mod cell;
 mod look;
+mod once;
 #[cfg(test)]
 mod tests;
 #[cfg(test)]
@@ -10,3 +11,4 @@ mod trials;
 
 pub use cell::call;
 pub use look::glance;
+pub use once::try_call;
