@@ -5,6 +5,8 @@ mod cell;
 mod look;
 mod once;
 #[cfg(test)]
+mod once_trials;
+#[cfg(test)]
 mod tests;
 #[cfg(test)]
 mod trials;
