@@ -18,8 +18,8 @@ use Rattle.seat_views.specs.Deciding.{look_settles}
 use Rattle.seat_views.specs.Items.{number_in, is_numbered, number_at, count_of}
 use Rattle.seat_views.specs.Paths.{and_then, eat_just, eat_run, is_last_try, eat_tries, eat_loop, count_if, eat_takes, eat_held, eat_locked, eat_match, eat_glance, eat_by, IsPath, IsGlanceAt, IsGlance}
 use Rattle.seat_views.specs.StepCounts.{IsNoGlance, GlanceIsShort, MatchedGlanceIsPath, MissedGlanceGoesOn}
-use Rattle.seat_views.proofs.PathEating.{takes_stretch, run_stretches}
-use Rattle.seat_views.proofs.PathFronts.{Rest, only, choice, then_parts, run_front, count_same, count_else, step_counts, number_after, stamp_told, stamp_fresh}
+use Rattle.seat_views.proofs.PathEating.{run_stretches}
+use Rattle.seat_views.proofs.PathFronts.{Rest, only, choice, then_parts, run_front, just_front, count_same, count_else, step_counts, number_after, stamp_told, stamp_fresh}
 
 -- ---- what settles the call
 
@@ -55,17 +55,28 @@ take_goes_on lock i U is one = λ k. if is k then (if eq-eqb (number_in i.number
 pub take_ends : (lock : ℕ) (i : Item) (U : List Item) → is_numbered step.Take lock i ≡ true → number_in i.number ≢ 1 → eat_takes lock (i ∷ U) ≡ Some (number_in i.number, U)
 take_ends lock i U is free = λ k. if is k then (if ne_eqb (number_in i.number) 1 free k then eat_takes lock U else Some (number_in i.number, U)) else None
 
--- takes, reads, stores and the release
-pub locked_joined : (lock first n : ℕ) (writes : Bool) (s : ℕ) (A B C D : List Item) → eat_takes lock A ≡ Some (s, []) → eat_run step.Held first n B ≡ Some [] → eat_run step.Put first (count_if writes n) C ≡ Some []
-    → eat_just step.Release lock (released writes s) D ≡ Some [] → eat_locked lock first n writes (((A ++ B) ++ C) ++ D) ≡ Some []
-locked_joined lock first n writes s A B C D a b c d =
+-- under a lock that was got at this stamp: reads, stores and the release
+pub held_joined : (lock first n : ℕ) (writes : Bool) (s : ℕ) (B C D : List Item) → eat_run step.Held first n B ≡ Some [] → eat_run step.Put first (count_if writes n) C ≡ Some []
+    → eat_just step.Release lock (released writes s) D ≡ Some [] → eat_held lock first n writes (Some (s, (B ++ C) ++ D)) ≡ Some []
+held_joined lock first n writes s B C D b c d =
     let puts : List Item → Rest = eat_run step.Put first (count_if writes n) in
     let ends : List Item → Rest = eat_just step.Release lock (released writes s) in
-    ap (eat_locked lock first n writes) (append_assoc (A ++ B) C D ∙ append_assoc A B (C ++ D))
-    ∙ (ap (eat_held lock first n writes) (takes_stretch lock A s [] (B ++ (C ++ D)) a)
+    ap (λ (l : List Item). eat_held lock first n writes (Some (s, l))) (append_assoc B C D)
     ∙ (ap (λ (z : Rest). and_then (and_then z puts) ends) (run_stretches step.Held first n B [] (C ++ D) b)
     ∙ (ap (λ (z : Rest). and_then z ends) (run_stretches step.Put first (count_if writes n) C [] D c)
-    ∙ d)))
+    ∙ d))
+
+-- there is no take among them
+pub held_takes_none : (lock first n : ℕ) (writes : Bool) (s : ℕ) (T : List Item) → eat_held lock first n writes (Some (s, T)) ≡ Some [] → count_of step.Take T ≡ 0
+held_takes_none lock first n writes s T e =
+    let outer = then_parts (and_then (eat_run step.Held first n T) (eat_run step.Put first (count_if writes n))) (eat_just step.Release lock (released writes s)) [] e in
+    let inner = then_parts (eat_run step.Held first n T) (eat_run step.Put first (count_if writes n)) outer.0 outer.1 in
+    let held = run_front step.Held first n T inner.0 inner.1 in
+    let put = run_front step.Put first (count_if writes n) inner.0 outer.0 inner.2 in
+    let released = just_front step.Release lock (released writes s) outer.0 [] outer.2 in
+    count_else step.Take step.Held first n T inner.0 held.0 refl
+    ∙ (count_else step.Take step.Put first (count_if writes n) inner.0 outer.0 put.0 refl
+    ∙ count_else step.Take step.Release lock 1 outer.0 [] released.0 refl)
 
 -- ---- a glance, and what follows it
 

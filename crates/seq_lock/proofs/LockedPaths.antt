@@ -43,7 +43,7 @@ module _ (S : Shape) (o : ℕ) (has : HasParts S o) where
       ∙ locked_at (does_write call r) T e)
 
   -- and its whole contract
-  pub locked_call : (call : Call) (p q : PassState) (r : Reply) → (is_load call && not S.section) ≡ false → MakesLocked S o call p r q → MakesCall S o call p r q
+  unfoldable pub locked_call : (call : Call) (p q : PassState) (r : Reply) → (is_load call && not S.section) ≡ false → MakesLocked S o call p r q → MakesCall S o call p r q
   locked_call call p q r straight h = record {
     steps = h.steps;
     made = h.made;

@@ -14,7 +14,8 @@ use Rattle.seat_views.specs.declared.view.Flight.TheVariants.{Idle, Hold, Glance
 use Rattle.seat_views.specs.declared.view.StepKind.TheVariants as step
 use Rattle.seat_views.specs.Places.{value_after, first_in, parts_of, word_of_lock}
 use Rattle.seat_views.specs.PartLists.{got, HasAll}
-use Rattle.seat_views.specs.Paths.{eat_run, eat_takes, eat_locked}
+use Rattle.seat_views.specs.LockSteps.{stamp_in}
+use Rattle.seat_views.specs.Paths.{eat_run, eat_takes, eat_held, eat_locked}
 use Rattle.seat_views.specs.States.{PassState, IsKept}
 use Rattle.seat_views.specs.LockStates.{IsStampOf}
 use Rattle.seat_views.specs.Makes.{MakesEntry}
@@ -110,8 +111,18 @@ pub record PutsAll (S : Shape) (o : ℕ) (p : PassState) (v : ℕ) (q : PassStat
   pub state : Steps p steps (with_put p.flight true now) q
   pub kept : IsKept q
 
--- a call was made under the lock: the takes, every part read, every part stored where the call writes, and the release.
+-- a call was made under a lock that was held: every part read, every part stored where the call writes, and the release.
 -- The reply is the table's, of the object's value where the entry comes, which is one of its kind
+pub record MakesHeld (S : Shape) (o : ℕ) (call : Call) (p : PassState) (r : Reply) (q : PassState) : Type 0 where
+  pub steps : List Item
+  pub made : MakesEntry o call p r steps q
+  pub eaten : eat_held (word_of_lock S o) (first_word S o) (parts_of S o) (does_write call r) (Some (stamp_in p.flight, steps)) ≡ Some []
+  pub value : ℕ
+  pub value_is : value_after S (p.seen ++ made.between) o ≡ value
+  pub fits : value < values_of (kind_of S o)
+  pub reply : r ≡ answer_of (kind_of S o) call value
+
+-- a call was made under the lock: the takes, and then as under a lock that was held
 pub record MakesLocked (S : Shape) (o : ℕ) (call : Call) (p : PassState) (r : Reply) (q : PassState) : Type 0 where
   pub steps : List Item
   pub made : MakesEntry o call p r steps q

@@ -1,6 +1,6 @@
 //! The parts of an object under its lock.
 
-ghost use Rattle.std.specs.Prelude.{◌≡◌, ◌<◌};
+ghost use Rattle.std.specs.Prelude.{◌≡◌, ◌<◌, MatchBool};
 ghost use Rattle.op_table.specs.Kind.{values_of};
 ghost use Rattle.op_table.specs.Call.{CallFits};
 ghost use Rattle.place_core.specs.Shapes.{kind_of};
@@ -10,6 +10,7 @@ ghost use Rattle.seat_views.specs.LockSteps.{HoldsClean, HoldsRead, MayRelease};
 ghost use Rattle.seat_views.specs.States.{IsOf};
 ghost use Rattle.seat_views.specs.LockStates.{Releases};
 ghost use Rattle.seq_lock.specs.Holds.{Took, ReadsAll, PutsAll, HoldsWritten};
+ghost use Rattle.seq_lock.specs.Once.{TookOnce, FoundHeld};
 
 use crate::spreads::spread_of;
 use crossbeam_utils::Backoff;
@@ -34,6 +35,19 @@ pub fn take<R: Wait>(rt: &R, arena: &Arena, pass: &mut Pass, object: u32)
         pause.snooze();
     }
     unreachable!()
+}
+
+/// Takes the lock of an object that has parts, once. True where the lock is held now; else it was held, and nothing is in
+/// flight.
+pub fn try_take(arena: &Arena, pass: &mut Pass, object: u32) -> bool
+    requires arena { IsOf arena.now pass.old }
+    requires object { HasParts arena.now.shape object }
+    requires rest { pass.old.flight ≡ Idle }
+    ensures { MatchBool result
+        (TookOnce arena.now.shape object arena.now.first_stamp pass.old pass.new)
+        (FoundHeld arena.now.shape object pass.old pass.new) }
+{
+    pass.step_take(arena, object)
 }
 
 /// Reads every part of the object whose lock is held, from part 0 up, and answers the value. Nothing was written yet.

@@ -10,7 +10,7 @@ mod tests;
 #[cfg(test)]
 mod trials;
 
-pub use calls::locked;
+pub use calls::{locked, try_locked};
 pub use glances::{Missed, glance_begin, glance_end, glance_part};
-pub use holds::{held_value, put_value, release, release_same, take};
+pub use holds::{held_value, put_value, release, release_same, take, try_take};
 pub use spreads::{Spread, spread_of};

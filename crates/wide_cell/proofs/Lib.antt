@@ -1,2 +1,4 @@
 pub mod LookSteps
 pub mod CallPaths
+pub mod OncePaths
+pub mod ItemCounts

@@ -1,2 +1,3 @@
 pub mod Looks
+pub mod Once
 pub mod Trials

@@ -3,6 +3,9 @@
 
 mod cell;
 mod look;
+mod once;
+#[cfg(test)]
+mod once_trials;
 #[cfg(test)]
 mod tests;
 #[cfg(test)]
@@ -10,3 +13,4 @@ mod trials;
 
 pub use cell::call;
 pub use look::glance;
+pub use once::try_call;

@@ -1,5 +1,8 @@
-//! Calls on a u128, by number.
+//! Calls on u128s, by number.
 
+use crate::once_trials::{
+    glance_and_stop, load, load_once, open_three, open_two, store, store_once, take_and_stop,
+};
 use crate::trials::{give, hold_beside, look, look_beside, make, open_wide};
 use op_table::{Call, Reply};
 use seq_lock::Missed;
@@ -58,5 +61,52 @@ fn exchange_that_fails_keeps_the_stamp(rt: HostRuntime) -> Result<(), Fail> {
     assert!(rt; seen == Ok(7));
     assert!(rt; make(&rt, &arena, &mut p, Call::CasWeak(7, 7)) == Some(Reply::Done(7)));
     assert!(rt; look_beside(&rt, &arena, &mut q, &mut p, Call::Load).0 == Ok(4));
+    Ok(())
+}
+
+const LAST: u64 = 18446744073709551614;
+
+#[test]
+fn lock_keeps_the_last_stamp(rt: HostRuntime) -> Result<(), Fail> {
+    let (arena, mut root) = open_two(rt.alloc(), 5, LAST)?.ok_or("it opens")?;
+    let mut p = give(&arena, &mut root).ok_or("a number is left")?;
+    assert!(rt; load(&rt, &arena, &mut p) == Reply::Value(5));
+    assert!(rt; store(&rt, &arena, &mut p, 6) == Reply::Unit);
+    assert!(rt; load(&rt, &arena, &mut p) == Reply::Value(6));
+    assert!(rt; look(&arena, &mut p) == Err(Missed::Last));
+    Ok(())
+}
+
+#[test]
+fn calls_at_the_last_stamp_take_once(rt: HostRuntime) -> Result<(), Fail> {
+    let (arena, mut root) = open_two(rt.alloc(), 5, LAST)?.ok_or("it opens")?;
+    let mut p = give(&arena, &mut root).ok_or("a number is left")?;
+    assert!(rt; load_once(&arena, &mut p, 0) == Some(Reply::Value(5)));
+    assert!(rt; store_once(&arena, &mut p, 0, 6) == Some(Reply::Unit));
+    assert!(rt; load_once(&arena, &mut p, 0) == Some(Reply::Value(6)));
+    assert!(rt; look(&arena, &mut p) == Err(Missed::Last));
+    Ok(())
+}
+
+#[test]
+fn stopped_holder_is_told(rt: HostRuntime) -> Result<(), Fail> {
+    let (arena, mut root) = open_three(rt.alloc())?.ok_or("it opens")?;
+    let p = give(&arena, &mut root).ok_or("a number is left")?;
+    let mut q = give(&arena, &mut root).ok_or("a number is left")?;
+    assert!(rt; take_and_stop(&arena, p, 0));
+    assert!(rt; store_once(&arena, &mut q, 1, 1).is_none());
+    assert!(rt; store_once(&arena, &mut q, 2, 1) == Some(Reply::Unit));
+    assert!(rt; load_once(&arena, &mut q, 0).is_none());
+    Ok(())
+}
+
+#[test]
+fn stopped_glance_holds_nobody_off(rt: HostRuntime) -> Result<(), Fail> {
+    let (arena, mut root) = open_wide(rt.alloc(), 5, 64, 0)?.ok_or("it opens")?;
+    let p = give(&arena, &mut root).ok_or("a number is left")?;
+    let mut q = give(&arena, &mut root).ok_or("a number is left")?;
+    assert!(rt; glance_and_stop(&arena, p) == Ok(0));
+    assert!(rt; make(&rt, &arena, &mut q, Call::Store(6)) == Some(Reply::Unit));
+    assert!(rt; look(&arena, &mut q) == Ok(6));
     Ok(())
 }

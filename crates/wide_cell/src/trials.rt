@@ -15,20 +15,20 @@ use seq_lock::{
 use std::alloc::{AllocError, Global};
 use std::sync::Wait;
 
-const WIDE: Kind = Kind {
+pub(crate) const WIDE: Kind = Kind {
     width: Width::W128,
     signed: false,
     class: Class::Int,
 };
 
-/// Whether object 0 is a u128 in parts, and not in a section.
-fn is_wide(arena: &Arena) -> bool
-    ensures { MatchBool result (IsWide arena.now.shape) ⊤ }
+/// Whether an object is a u128 in parts, and not in a section.
+pub(crate) fn is_wide(arena: &Arena, object: u32) -> bool
+    ensures { MatchBool result (IsWide arena.now.shape object) ⊤ }
 {
-    if arena.shape().objects.len() == 0 || arena.shape().section {
+    if object as usize >= arena.shape().objects.len() || arena.shape().section {
         return false;
     }
-    let there = arena.shape().objects.at(0);
+    let there = arena.shape().objects.at(object as usize);
     match (there.kind, there.place) {
         (
             Kind {
@@ -49,7 +49,7 @@ pub(crate) fn open_wide(
     bits: u32,
     stamp: u64,
 ) -> Result<Option<(Arena, Root)>, AllocError>
-    ensures { IfOk result (λ r. IfSome r (λ t. IsReadyRoot t.0 t.1 × IsWide t.0.shape)) }
+    ensures { IfOk result (λ r. IfSome r (λ t. IsReadyRoot t.0 t.1 × IsWide t.0.shape 0)) }
 {
     let mut objects = Vec::new(alloc);
     objects.push(Object {
@@ -79,7 +79,7 @@ pub(crate) fn open_wide(
         return Ok(None);
     }
     match Arena::open(alloc, shape, stamp) {
-        Ok((arena, root)) if is_wide(&arena) => Ok(Some((arena, root))),
+        Ok((arena, root)) if is_wide(&arena, 0) => Ok(Some((arena, root))),
         _ => Ok(None),
     }
 }
@@ -96,7 +96,7 @@ pub(crate) fn give(arena: &Arena, root: &mut Root) -> Option<Pass>
 /// Makes a call; None where the kind hasn't it.
 pub(crate) fn make<R: Wait>(rt: &R, arena: &Arena, pass: &mut Pass, what: Call) -> Option<Reply>
     requires ready { IsReady arena.now pass.old }
-    requires wide { IsWide arena.now.shape }
+    requires wide { IsWide arena.now.shape 0 }
     ensures { IsReady arena.now pass.new }
 {
     let kind = arena.shape().objects.at(0).kind;
@@ -109,7 +109,7 @@ pub(crate) fn make<R: Wait>(rt: &R, arena: &Arena, pass: &mut Pass, what: Call) 
 /// A glance.
 pub(crate) fn look(arena: &Arena, pass: &mut Pass) -> Result<u128, Missed>
     requires ready { IsReady arena.now pass.old }
-    requires wide { IsWide arena.now.shape }
+    requires wide { IsWide arena.now.shape 0 }
     ensures { IsReady arena.now pass.new }
 {
     glance(arena, pass, 0)
@@ -123,7 +123,7 @@ pub(crate) fn hold_beside<R: Wait>(
     other: &mut Pass,
 ) -> (Result<u128, Missed>, u128, Reply)
     requires ready { IsReady arena.now pass.old × IsReady arena.now other.old }
-    requires wide { IsWide arena.now.shape }
+    requires wide { IsWide arena.now.shape 0 }
     ensures { IsReady arena.now pass.new × IsReady arena.now other.new }
 {
     take(rt, arena, pass, 0);
@@ -136,7 +136,7 @@ pub(crate) fn hold_beside<R: Wait>(
 /// Begins a glance.
 fn begin(arena: &Arena, pass: &mut Pass) -> Result<u64, Missed>
     requires ready { IsReady arena.now pass.old }
-    requires wide { IsWide arena.now.shape }
+    requires wide { IsWide arena.now.shape 0 }
     ensures { MatchResult result (λ _. SeesParts arena.now 0 0 pass.new) (λ _. IsReady arena.now pass.new) }
 {
     glance_begin(arena, pass, 0)
@@ -172,7 +172,7 @@ pub(crate) fn look_beside<R: Wait>(
     what: Call,
 ) -> (Result<u64, Missed>, Result<u128, Missed>)
     requires ready { IsReady arena.now pass.old × IsReady arena.now other.old }
-    requires wide { IsWide arena.now.shape }
+    requires wide { IsWide arena.now.shape 0 }
     ensures { IsReady arena.now pass.new × IsReady arena.now other.new }
 {
     match begin(arena, pass) {

@@ -1,0 +1,8 @@
+use Rattle.wide_cell.proofs.ItemCounts.{if_some, if_none, store_once_items, store_none_items}
+use Rattle.wide_cell.proofs.once_trials.store_once.Goals as goal
+
+pub returns-clause-made : goal.returns-clause-made
+returns-clause-made c = if_some _ _ c.try_call.result (λ r m. store_once_items _ _ c.requires.two _ _ _ r m) c.try_call.ensures.made
+
+pub returns-clause-none : goal.returns-clause-none
+returns-clause-none c = if_none _ _ c.try_call.result (store_none_items _ _ c.requires.two _ _ _) c.try_call.ensures.none
