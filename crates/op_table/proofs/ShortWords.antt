@@ -44,32 +44,7 @@ kind_word_is_short kind is = tested 4 (kind_word kind) (kind_tests kind.class ki
 
 operation_tests : (op : Operation) → is_word_up_to 21 (operation_word op) ≡ true
 operation_tests Load = refl
-operation_tests Store = refl
-operation_tests Swap = refl
-operation_tests CompareExchange = refl
-operation_tests CompareExchangeWeak = refl
-operation_tests FetchAdd = refl
-operation_tests Add = refl
-operation_tests FetchSub = refl
-operation_tests Sub = refl
-operation_tests FetchAnd = refl
-operation_tests And = refl
-operation_tests FetchNand = refl
-operation_tests FetchOr = refl
-operation_tests Or = refl
-operation_tests FetchXor = refl
-operation_tests Xor = refl
-operation_tests FetchMax = refl
-operation_tests FetchMin = refl
-operation_tests FetchNot = refl
-operation_tests Not = refl
-operation_tests FetchNeg = refl
-operation_tests Neg = refl
-operation_tests BitSet = refl
-operation_tests BitClear = refl
-operation_tests BitToggle = refl
-operation_tests FetchByteAdd = refl
-operation_tests FetchByteSub = refl
+operation_tests _ = refl
 
 pub operation_word_is_short : OperationWordIsShort
 operation_word_is_short op = tested 21 (operation_word op) (operation_tests op)

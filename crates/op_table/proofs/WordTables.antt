@@ -23,32 +23,7 @@ use Rattle.op_table.proofs.Digits.{chosen}
 pub operation_word_is_read : OperationWordIsRead
 unfolding operation_of_word
 operation_word_is_read Load = refl
-operation_word_is_read Store = refl
-operation_word_is_read Swap = refl
-operation_word_is_read CompareExchange = refl
-operation_word_is_read CompareExchangeWeak = refl
-operation_word_is_read FetchAdd = refl
-operation_word_is_read Add = refl
-operation_word_is_read FetchSub = refl
-operation_word_is_read Sub = refl
-operation_word_is_read FetchAnd = refl
-operation_word_is_read And = refl
-operation_word_is_read FetchNand = refl
-operation_word_is_read FetchOr = refl
-operation_word_is_read Or = refl
-operation_word_is_read FetchXor = refl
-operation_word_is_read Xor = refl
-operation_word_is_read FetchMax = refl
-operation_word_is_read FetchMin = refl
-operation_word_is_read FetchNot = refl
-operation_word_is_read Not = refl
-operation_word_is_read FetchNeg = refl
-operation_word_is_read Neg = refl
-operation_word_is_read BitSet = refl
-operation_word_is_read BitClear = refl
-operation_word_is_read BitToggle = refl
-operation_word_is_read FetchByteAdd = refl
-operation_word_is_read FetchByteSub = refl
+operation_word_is_read _ = refl
 
 pub operation_has_one_word : OperationHasOneWord
 unfolding operation_of_word

@@ -27,7 +27,8 @@ use Rattle.seat_views.specs.Stamps.{IsStampIn}
 use Rattle.seat_views.specs.PartLists.{got, HasAll}
 use Rattle.seat_views.specs.Rule.{shown, part_in, Fits, GlanceFits, KnowsGlance, HoldsUnder, ArenaHolds}
 use Rattle.seat_views.specs.Steps.{Asked, entry, item, grown, moved, Grows}
-use Rattle.seat_views.specs.LockSteps.{last_stamp, read_more, StampTold, stamp_tells, read_tells}
+use Rattle.seat_views.specs.Limits.{last_stamp}
+use Rattle.seat_views.specs.LockSteps.{read_more, StampTold, stamp_tells, read_tells}
 use Rattle.seat_views.proofs.ShapePlaces.{parts_within, parts_hold, one_place, lawful}
 use Rattle.seat_views.proofs.Frames.{SameInParts, flights_of, flights_set, parts_frame, glances_frame, lanes_frame}
 use Rattle.seat_views.proofs.Histories.{pass_known, shape_is, history_adds, sound_set}

@@ -15,7 +15,8 @@ use Rattle.seat_views.specs.declared.view.Flight.{Flight}
 use Rattle.seat_views.specs.declared.view.Flight.TheVariants.{Idle, Hold, Glance}
 use Rattle.seat_views.specs.Places.{parts_of}
 use Rattle.seat_views.specs.PartLists.{look_up, got, HasAll}
-use Rattle.seat_views.specs.LockSteps.{last_stamp, taken_flight, stamped_flight, read_more, write_more, read_in, stamp_in, released, stored_by, value_read, HandReads, HandFits, HoldsClean, HoldsRead, MayRelease, GlancesAt, GlancesRead, IsGlance}
+use Rattle.seat_views.specs.Limits.{last_stamp}
+use Rattle.seat_views.specs.LockSteps.{taken_flight, stamped_flight, read_more, write_more, read_in, stamp_in, released, stored_by, value_read, HandReads, HandFits, HoldsClean, HoldsRead, MayRelease, GlancesAt, GlancesRead, IsGlance}
 use Rattle.seat_views.proofs.ShapePlaces.{count_is}
 
 -- a hand with nothing read

@@ -13,7 +13,8 @@ use Rattle.seat_views.specs.declared.view.Flight.TheVariants.{Idle, Hold, Glance
 use Rattle.seat_views.specs.Places.{value_after}
 use Rattle.seat_views.specs.PartLists.{look_up, or_zero, got, HasAll}
 use Rattle.seat_views.specs.Rule.{Lanes, Lock, shown, held_or, part_in, Fits, KnowsHold, KnowsGlance}
-use Rattle.seat_views.specs.LockSteps.{last_stamp, parts_now, released}
+use Rattle.seat_views.specs.Limits.{last_stamp}
+use Rattle.seat_views.specs.LockSteps.{parts_now, released}
 use Rattle.seat_views.proofs.ShapePlaces.{lane_within, parts_within, one_place}
 use Rattle.seat_views.proofs.Frames.{SameInParts, lanes_frame, fits_frame}
 

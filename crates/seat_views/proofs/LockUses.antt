@@ -17,7 +17,8 @@ use Rattle.seat_views.specs.declared.view.Flight.TheVariants.{Idle, Hold, Glance
 use Rattle.seat_views.specs.Places.{lock_in, HasParts, parts_of}
 use Rattle.seat_views.specs.Stamps.{entries_under}
 use Rattle.seat_views.specs.PartLists.{look_up, or_zero, got, HasAll}
-use Rattle.seat_views.specs.LockSteps.{last_stamp, read_more, write_more, HoldsClean, HoldsRead, MayRelease, GlancesAt, GlancesRead}
+use Rattle.seat_views.specs.Limits.{last_stamp}
+use Rattle.seat_views.specs.LockSteps.{read_more, write_more, HoldsClean, HoldsRead, MayRelease, GlancesAt, GlancesRead}
 use Rattle.seat_views.specs.States.{ArenaState, PassState, IsOf, Moved, Appends, Opens}
 use Rattle.seat_views.specs.LockStates.{TakesLock, ReadsHeld, PutsPart, Releases, ReadsStamp, ReadsPart}
 use Rattle.seat_views.specs.Trials.{SeesParts, IsReady, HasTwoParts, IsTaken, HasRead, HasWritten, IsGlanced, HasGlanced}

@@ -14,7 +14,7 @@ use Rattle.place_core.specs.Shapes.{place_of, kind_of, data_word, lock_word}
 use Rattle.place_core.specs.Operations.{path_at, plan_of}
 use Rattle.seat_views.specs.declared.view.StepKind.TheVariants as step
 use Rattle.seat_views.specs.declared.view.Item.{Item}
-use Rattle.seat_views.specs.LockSteps.{last_stamp}
+use Rattle.seat_views.specs.Limits.{last_stamp}
 use Rattle.seat_views.specs.Items.{number_in, is_numbered, number_at, count_of}
 use Rattle.seat_views.specs.Deciding.{lost_try_settles}
 use Rattle.seat_views.specs.Paths.{lane_in, is_last_try, eat_tries, eat_loop, count_if, eat_locked, eat_glance, eat_one_step, eat_parts, eat_by, IsPath}

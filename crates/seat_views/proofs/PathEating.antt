@@ -14,7 +14,8 @@ use Rattle.place_core.specs.Operations.{plan_of}
 use Rattle.seat_views.specs.declared.view.StepKind.{StepKind}
 use Rattle.seat_views.specs.declared.view.StepKind.TheVariants as step
 use Rattle.seat_views.specs.declared.view.Item.{Item}
-use Rattle.seat_views.specs.LockSteps.{last_stamp, released}
+use Rattle.seat_views.specs.Limits.{last_stamp}
+use Rattle.seat_views.specs.LockSteps.{released}
 use Rattle.seat_views.specs.Items.{number_in, is_item, is_numbered, is_just}
 use Rattle.seat_views.specs.Paths.{and_then, eat_one, eat_just, eat_run, lane_in, is_last_try, eat_tries, eat_loop, count_if, eat_takes, eat_held, eat_locked, eat_match, eat_glance, eat_one_step, eat_turns, eat_parts, eat_by, eat_path, eat_paths}
 use Rattle.seat_views.specs.PathLaws.{Stretches, PathStretches, PathsStretch, PathEnds, NoCallsNoSteps, OnePathIsPaths, PathsJoin, PathsWithOneMore}

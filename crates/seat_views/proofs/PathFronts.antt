@@ -8,7 +8,8 @@ use Rattle.place_core.proofs.EntryLists.{all_map}
 use Rattle.seat_views.specs.declared.view.StepKind.{StepKind}
 use Rattle.seat_views.specs.declared.view.StepKind.TheVariants as step
 use Rattle.seat_views.specs.declared.view.Item.{Item}
-use Rattle.seat_views.specs.LockSteps.{last_stamp, released}
+use Rattle.seat_views.specs.Limits.{last_stamp}
+use Rattle.seat_views.specs.LockSteps.{released}
 use Rattle.seat_views.specs.Items.{kind_code, has_number, number_in, is_step, is_item, is_numbered, is_just, number_at, count_of}
 use Rattle.seat_views.specs.Paths.{and_then, eat_one, eat_just, eat_run, count_if, eat_takes, eat_held, eat_locked, eat_match, eat_glance}
 

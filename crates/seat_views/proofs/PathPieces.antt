@@ -13,7 +13,8 @@ use Rattle.place_core.specs.Shapes.{place_of, kind_of, data_word, lock_word}
 use Rattle.place_core.specs.Operations.{path_at}
 use Rattle.seat_views.specs.declared.view.StepKind.TheVariants as step
 use Rattle.seat_views.specs.declared.view.Item.{Item}
-use Rattle.seat_views.specs.LockSteps.{last_stamp, released}
+use Rattle.seat_views.specs.Limits.{last_stamp}
+use Rattle.seat_views.specs.LockSteps.{released}
 use Rattle.seat_views.specs.Deciding.{look_settles}
 use Rattle.seat_views.specs.Items.{number_in, is_numbered, number_at, count_of}
 use Rattle.seat_views.specs.Paths.{and_then, eat_just, eat_run, is_last_try, eat_tries, eat_loop, count_if, eat_takes, eat_held, eat_locked, eat_match, eat_glance, eat_by, IsPath, IsGlanceAt, IsGlance}

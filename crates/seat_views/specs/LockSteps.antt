@@ -16,14 +16,11 @@ use Rattle.seat_views.specs.declared.view.Role.TheVariants as role
 use Rattle.seat_views.specs.declared.view.Flight.{Flight}
 use Rattle.seat_views.specs.declared.view.Flight.TheVariants.{Idle, Hold, Glance}
 use Rattle.seat_views.specs.declared.view.View.{View}
+use Rattle.seat_views.specs.Limits.{last_stamp}
 use Rattle.seat_views.specs.Places.{lock_in, parts_of}
 use Rattle.seat_views.specs.Stamps.{IsStampIn}
 use Rattle.seat_views.specs.PartLists.{look_up, got, HasAll}
 use Rattle.seat_views.specs.Steps.{Asked, entry, item, moved, Grows, GrowsFrom}
-
--- the greatest even number of 64 bits. A lock that has come to it keeps it
-abbrev pub last_stamp : ℕ
-last_stamp = 18446744073709551614
 
 -- ---- the call in flight after a step
 

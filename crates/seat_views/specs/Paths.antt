@@ -14,7 +14,8 @@ use Rattle.place_core.specs.Operations.{plan_of}
 use Rattle.seat_views.specs.declared.view.StepKind.{StepKind}
 use Rattle.seat_views.specs.declared.view.StepKind.TheVariants as step
 use Rattle.seat_views.specs.declared.view.Item.{Item}
-use Rattle.seat_views.specs.LockSteps.{last_stamp, released}
+use Rattle.seat_views.specs.Limits.{last_stamp}
+use Rattle.seat_views.specs.LockSteps.{released}
 use Rattle.seat_views.specs.Items.{number_in, is_item, is_numbered, is_just}
 use Rattle.seat_views.specs.Deciding.{lost_try_settles}
 

@@ -18,6 +18,7 @@ use Rattle.seat_views.specs.declared.view.Flight.{Flight}
 use Rattle.seat_views.specs.declared.view.Flight.TheVariants.{Idle, Hold, Glance}
 use Rattle.seat_views.specs.declared.view.Ended.{Ended}
 use Rattle.seat_views.specs.declared.view.View.{View}
+use Rattle.seat_views.specs.Limits.{last_stamp}
 use Rattle.seat_views.specs.Places.{value_after, IsLegalIn}
 use Rattle.seat_views.specs.PartLists.{look_up, got, HasAll}
 use Rattle.seat_views.specs.Stamps.{entries_under}
@@ -132,7 +133,7 @@ module _ (S : Shape) (log : List Entry) (locks : ℕ → Lock) (words : List ℕ
     pub bits : ℕ
     pub place : place_of S o ≡ Some (In lock first count bits)
     pub even : stamp % 2 ≡ 0
-    pub below : stamp < 18446744073709551614
+    pub below : stamp < last_stamp
     pub upto : stamp ≤ (locks lock).stamp
     pub reads : stamp ≡ (locks lock).stamp → (locks lock).dirty ≡ false → Fits words first count read
 

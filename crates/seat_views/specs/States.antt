@@ -12,6 +12,7 @@ use Rattle.seat_views.specs.declared.view.Ended.{Ended}
 use Rattle.seat_views.specs.declared.view.Flight.{Flight}
 use Rattle.seat_views.specs.declared.view.Flight.TheVariants.{Idle}
 use Rattle.seat_views.specs.declared.view.View.{View}
+use Rattle.seat_views.specs.Limits.{most_passes}
 use Rattle.seat_views.specs.Places.{IsLegalIn}
 use Rattle.seat_views.specs.Steps.{IsRootSound}
 
@@ -98,7 +99,7 @@ new_pass p = record { arena = p.arena; shape = p.shape; number = p.given + 1; se
 
 -- the root gave a number, which was left, by one load of word 0
 pub record Gives (p new q : PassState) : Type 0 where
-  pub left : p.given < 65535
+  pub left : p.given < most_passes
   pub root : q ≡ record p { aside = p.aside + 1; given = p.given + 1 }
   pub pass : new ≡ new_pass p
   pub kept : IsKept q
@@ -106,7 +107,7 @@ pub record Gives (p new q : PassState) : Type 0 where
 
 -- the root had no number left, and stays
 pub record GivesNone (p q : PassState) : Type 0 where
-  pub full : 65535 ≤ p.given
+  pub full : most_passes ≤ p.given
   pub root : q ≡ p
   pub kept : IsKept q
 

@@ -12,7 +12,7 @@ use Rattle.place_core.specs.Shapes.{place_of, data_word, lock_word}
 use Rattle.place_core.specs.Operations.{plan_of}
 use Rattle.seat_views.specs.declared.view.StepKind.TheVariants as step
 use Rattle.seat_views.specs.declared.view.Item.{Item}
-use Rattle.seat_views.specs.LockSteps.{last_stamp}
+use Rattle.seat_views.specs.Limits.{last_stamp}
 use Rattle.seat_views.specs.Items.{number_in, is_numbered, number_at, count_of}
 use Rattle.seat_views.specs.Paths.{lane_in, is_last_try, eat_locked, IsPath, IsGlance}
 

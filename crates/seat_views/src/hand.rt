@@ -12,7 +12,7 @@ pub struct Hand {
 }
 
 /// The greatest stamp. A lock that has come to it keeps it.
-const LAST_STAMP: u64 = 18446744073709551614;
+pub const LAST_STAMP: u64 = 18_446_744_073_709_551_614;
 
 /// The hand where a call begins.
 pub(crate) fn hand_at(stamp: u64) -> Hand

@@ -18,7 +18,8 @@ mod trials;
 mod view;
 
 pub use arena::Arena;
+pub use hand::LAST_STAMP;
 pub use note::Note;
-pub use pass::Pass;
+pub use pass::{MOST_PASSES, Pass};
 pub use root::Root;
 pub use view::{Beside, Ended, Flight, Item, Opening, Role, StepKind, View};

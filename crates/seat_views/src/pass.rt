@@ -54,7 +54,7 @@ impl Model for Pass {
 }
 
 /// The most numbers that a root gives.
-const MOST: u32 = 65535;
+pub const MOST_PASSES: u32 = 65_535;
 
 impl Pass {
     pub(crate) fn of(number: u32, given: u32, seat: Seat<(), View>) -> Pass
@@ -78,7 +78,7 @@ impl Pass {
         requires rest { self.old.flight ≡ Idle }
         ensures { MatchResult result (λ p. Gives self.old p self.new) (λ _. GivesNone self.old self.new) }
     {
-        if self.given >= MOST {
+        if self.given >= MOST_PASSES {
             return Err(Full);
         }
         let given = self.given + 1;

@@ -2,7 +2,8 @@
 use Rattle.std.specs.Prelude.{◌≡◌, ◌≢◌, ℕ, []}
 use Rattle.place_core.specs.declared.shape.Shape.{Shape}
 use Rattle.seat_views.specs.declared.view.Flight.TheVariants.{Glance}
-use Rattle.seat_views.specs.LockSteps.{last_stamp, stamp_in}
+use Rattle.seat_views.specs.Limits.{last_stamp}
+use Rattle.seat_views.specs.LockSteps.{stamp_in}
 use Rattle.seat_views.specs.States.{PassState}
 use Rattle.seat_views.specs.LockStates.{ReadsStamp, Misses}
 use Rattle.seq_lock.specs.declared.glances.Missed.{Missed}

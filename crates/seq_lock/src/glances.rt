@@ -8,7 +8,7 @@ ghost use Rattle.seat_views.specs.States.{IsOf};
 ghost use Rattle.seat_views.specs.LockStates.{ReadsPart, Matches};
 ghost use Rattle.seq_lock.specs.Glances.{Begins, BeginsNot, EndsNot};
 
-use seat_views::{Arena, Pass};
+use seat_views::{Arena, LAST_STAMP, Pass};
 use thiserror::Error;
 
 /// Why a glance has no value.
@@ -25,9 +25,6 @@ pub enum Missed {
     Last,
 }
 
-/// The last stamp, which a lock keeps once it has come to it.
-const LAST: u64 = 18446744073709551614;
-
 /// Begins a glance at an object that has parts, and answers the lock's stamp. Held where the lock is held, and Last
 /// where it has its last stamp: then no glance is in flight.
 pub fn glance_begin(arena: &Arena, pass: &mut Pass, object: u32) -> Result<u64, Missed>
@@ -41,7 +38,7 @@ pub fn glance_begin(arena: &Arena, pass: &mut Pass, object: u32) -> Result<u64, 
     if stamp == 1 {
         return Err(Missed::Held);
     }
-    if stamp == LAST {
+    if stamp == LAST_STAMP {
         return Err(Missed::Last);
     }
     Ok(stamp)

@@ -2,6 +2,7 @@
 
 ghost use Rattle.std.specs.Prelude.{◌≡◌, ◌<◌, ◌≤◌, ◌+◌, length, map, IfOk};
 ghost use Rattle.seat_views.specs.States.{IsKept};
+ghost use Rattle.seat_views.specs.Limits.{most_passes};
 ghost use Rattle.runner.specs.declared.worker.Worker.{Worker};
 ghost use Rattle.whole_run.specs.Stages.{root_of, IsManned, HasManned};
 
@@ -14,7 +15,7 @@ use std::alloc::Global;
 /// Gives the script a pass, and room for its replies.
 fn man(alloc: Global, arena: &Arena, root: &mut Root, script: Script) -> Result<Worker, NoMemory>
     requires root { root.old ≡ root_of arena.now root.old.given }
-    requires left { root.old.given < 65535 }
+    requires left { root.old.given < most_passes }
     ensures root { IfOk result (λ _. root.new ≡ root_of arena.now (root.old.given + 1)) }
     ensures kept { IfOk result (λ _. IsKept root.new) }
     ensures script { IfOk result (λ w. w.script ≡ script) }
@@ -40,7 +41,7 @@ pub(crate) fn man_all(
 ) -> Result<Vec<Worker>, NoMemory>
     requires root { root.old ≡ root_of arena.now 0 }
     requires kept { IsKept root.old }
-    requires few { length scripts.items ≤ 65535 }
+    requires few { length scripts.items ≤ most_passes }
     ensures scripts { IfOk result (λ ws. map (λ (w : Worker). w.script) ws.items ≡ scripts.items) }
     ensures manned { IfOk result (λ ws. HasManned arena.now ws.items root.new) }
 {

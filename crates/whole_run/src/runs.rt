@@ -6,6 +6,7 @@ ghost use Rattle.place_core.specs.Runs.{ScriptsFit};
 ghost use Rattle.place_core.specs.Shapes.{cells_of_shape};
 ghost use Rattle.runner.specs.declared.worker.Worker.{Worker};
 ghost use Rattle.whole_run.specs.Stages.{AreManned, AreDone};
+ghost use Rattle.seat_views.specs.Limits.{most_passes};
 
 use place_core::Gate;
 use runner::{Worker, run_all};
@@ -22,7 +23,7 @@ pub(crate) fn run_manned<R: Threads + Wait + Sync, G: Gate>(
 ) -> Vec<Worker>
     requires manned { AreManned arena.now 1 workers.items }
     requires fits { ScriptsFit (cells_of_shape arena.now.shape) (map script_lines (map (λ (w : Worker). w.script) workers.items)) }
-    requires few { length workers.items ≤ 65535 }
+    requires few { length workers.items ≤ most_passes }
     ensures done { AreDone arena.now 1 result.items }
     ensures scripts { map (λ (w : Worker). w.script) result.items ≡ map (λ (w : Worker). w.script) workers.items }
     ensures count { length result.items ≡ length workers.items }

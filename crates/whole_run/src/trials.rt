@@ -4,11 +4,12 @@ ghost use Rattle.std.specs.Prelude.{◌≡◌, ◌≤◌, true, length, map, IfS
 ghost use Rattle.place_core.specs.Pieces.{script_lines};
 ghost use Rattle.place_core.specs.Runs.{HasCall, ScriptFits, ScriptsFit, asked_of};
 ghost use Rattle.place_core.specs.Shapes.{IsShape, cells_of_shape};
+ghost use Rattle.seat_views.specs.Limits.{most_passes};
 
 use crate::{WholeRun, run_whole};
 use layout_plan::{are_declared, lay};
 use op_table::{Call, Class, Kind, Order, Width, call_fits};
-use place_core::{Declared, MOST_IN_SHAPE, Line, Name, OpenGate, Script, Shape};
+use place_core::{Declared, Line, MOST_IN_SHAPE, Name, OpenGate, Script, Shape};
 use std::alloc::Global;
 use std::sync::Wait;
 use std::thread::Threads;
@@ -75,7 +76,7 @@ fn script_of(alloc: Global, shape: &Shape, calls: &[Call]) -> Option<Script>
 fn two_of(alloc: Global, shape: &Shape, first: &[Call], second: &[Call]) -> Option<Vec<Script>>
     requires { IsShape shape.now }
     ensures fits { IfSome result (λ s. ScriptsFit (cells_of_shape shape.now) (map script_lines s.items)) }
-    ensures count { IfSome result (λ s. length s.items ≤ 65535) }
+    ensures count { IfSome result (λ s. length s.items ≤ most_passes) }
 {
     let first = script_of(alloc, shape, first)?;
     let second = script_of(alloc, shape, second)?;

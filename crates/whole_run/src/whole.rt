@@ -6,6 +6,7 @@ ghost use Rattle.place_core.specs.Runs.{ScriptsFit, replies_by, replies_from};
 ghost use Rattle.place_core.specs.Shapes.{cells_of_shape, IsShape};
 ghost use Rattle.place_core.specs.Pieces.{script_lines};
 ghost use Rattle.whole_run.specs.WholeRuns.{RanWhole};
+ghost use Rattle.seat_views.specs.Limits.{most_passes};
 
 use crate::loads::load_all;
 use crate::manned::man_all;
@@ -39,7 +40,7 @@ pub fn run_whole<R: Threads + Wait + Sync, G: Gate>(
 ) -> Result<WholeRun, NoMemory>
     requires shape { IsShape shape }
     requires fits { ScriptsFit (cells_of_shape shape) (map script_lines scripts.items) }
-    requires few { length scripts.items ≤ 65535 }
+    requires few { length scripts.items ≤ most_passes }
     ensures run { IfOk result (λ r. RanWhole shape (map script_lines scripts.items) r.arena r.root) }
     ensures scripts { IfOk result (λ r. r.scripts.items ≡ scripts.items) }
     ensures replies { IfOk result (λ r. map (λ (k : RepliesState). k.items) r.replies.items ≡ replies_from r.root.seen 1 (map script_lines scripts.items)) }

@@ -7,7 +7,7 @@ use Rattle.op_table.specs.declared.call.Reply.TheVariants.{Unit}
 use Rattle.place_core.specs.declared.shape.Shape.{Shape}
 use Rattle.seat_views.specs.declared.view.Item.{Item}
 use Rattle.seat_views.specs.declared.view.StepKind.TheVariants as step
-use Rattle.seat_views.specs.LockSteps.{last_stamp}
+use Rattle.seat_views.specs.Limits.{last_stamp}
 use Rattle.seat_views.specs.Places.{word_of_lock}
 use Rattle.seat_views.specs.Items.{number_at}
 use Rattle.seat_views.specs.Steps.{item}

@@ -13,7 +13,8 @@ use Rattle.seat_views.specs.declared.view.Flight.TheVariants.{Idle, Glance}
 use Rattle.seat_views.specs.declared.view.StepKind.TheVariants as step
 use Rattle.seat_views.specs.Places.{lock_in, first_in, count_in, HasParts, parts_of, word_of_lock, word_of_part}
 use Rattle.seat_views.specs.Steps.{item}
-use Rattle.seat_views.specs.LockSteps.{last_stamp, stamped_flight, stamp_in, read_more, GlancesAt, GlancesRead}
+use Rattle.seat_views.specs.Limits.{last_stamp}
+use Rattle.seat_views.specs.LockSteps.{stamped_flight, stamp_in, read_more, GlancesAt, GlancesRead}
 use Rattle.seat_views.specs.Paths.{and_then, eat_run, eat_match, eat_glance, IsGlanceAt, IsGlance}
 use Rattle.seat_views.specs.States.{ArenaState, PassState, IsOf}
 use Rattle.seat_views.specs.LockStates.{ReadsStamp, ReadsPart, Matches}

@@ -9,7 +9,7 @@ use Rattle.seat_views.specs.declared.view.StepKind.TheVariants as step
 use Rattle.seat_views.specs.Places.{parts_of, word_of_lock}
 use Rattle.seat_views.specs.PartLists.{HasAll}
 use Rattle.seat_views.specs.Steps.{item}
-use Rattle.seat_views.specs.LockSteps.{last_stamp}
+use Rattle.seat_views.specs.Limits.{last_stamp}
 use Rattle.seat_views.specs.Paths.{eat_run, IsGlance}
 use Rattle.seat_views.specs.States.{PassState, IsKept}
 use Rattle.seat_views.specs.Makes.{MakesEntry}

@@ -2,7 +2,7 @@
 
 ghost use Rattle.std.specs.Prelude.{◌≡◌, IfOk, IfSome, IfNone, MatchBool, ⊤};
 ghost use Rattle.op_table.specs.declared.call.Reply.TheVariants.{Unit};
-ghost use Rattle.seat_views.specs.LockSteps.{last_stamp};
+ghost use Rattle.seat_views.specs.Limits.{last_stamp};
 ghost use Rattle.seat_views.specs.Trials.{IsReady, IsReadyRoot};
 ghost use Rattle.wide_cell.specs.Trials.{IsWide, IsWideOfTwo, BeginsWith, Adds, AddsTakesAnd};
 
