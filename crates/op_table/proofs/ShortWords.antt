@@ -9,7 +9,7 @@ use Rattle.op_table.specs.declared.kind.Class.TheVariants as class
 use Rattle.op_table.specs.declared.order.Order.{Order}
 use Rattle.op_table.specs.declared.order.Order.TheVariants.{Relaxed, Acquire, Release, AcqRel, SeqCst}
 use Rattle.op_table.specs.declared.words.Operation.{Operation}
-use Rattle.op_table.specs.declared.words.Operation.TheVariants.{Load, Store, Swap, CompareExchange, CompareExchangeWeak, FetchAdd, Add, FetchSub, Sub, FetchAnd, And, FetchNand, FetchOr, Or, FetchXor, Xor, FetchMax, FetchMin, FetchNot, Not, FetchNeg, Neg, BitSet, BitClear, BitToggle, FetchByteAdd, FetchByteSub}
+use Rattle.op_table.specs.declared.words.Operation.TheVariants.{Load}
 use Rattle.op_table.specs.Kind.{IsOfClass}
 use Rattle.op_table.specs.Words.{kind_word, operation_word}
 use Rattle.op_table.specs.Orders.{order_word}

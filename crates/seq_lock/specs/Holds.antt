@@ -111,8 +111,8 @@ pub record PutsAll (S : Shape) (o : ℕ) (p : PassState) (v : ℕ) (q : PassStat
   pub state : Steps p steps (with_put p.flight true now) q
   pub kept : IsKept q
 
--- a call was made under a lock that was held: every part read, every part stored where the call writes, and the release.
--- The reply is the table's, of the object's value where the entry comes, which is one of its kind
+-- a call was made under a lock that the pass held: every part read, every part stored where the call writes, and the
+-- release. The reply is the table's, of the object's value where the entry comes, which is one of its kind
 pub record MakesHeld (S : Shape) (o : ℕ) (call : Call) (p : PassState) (r : Reply) (q : PassState) : Type 0 where
   pub steps : List Item
   pub made : MakesEntry o call p r steps q

@@ -55,8 +55,8 @@ pub fn locked<V: Scalar, R: Wait>(
     held_call::<V>(arena, pass, object, call)
 }
 
-/// Makes a call under the lock as `locked` does, but takes it only once, and waits for nobody. None where that take found
-/// the lock held: then nothing is in flight, and no entry was made.
+/// Makes a call under the lock as `locked` does, but takes it only once, and waits for nobody. None where that take
+/// found the lock held: then nothing is in flight, and no entry was made.
 pub fn try_locked<V: Scalar>(
     arena: &Arena,
     pass: &mut Pass,

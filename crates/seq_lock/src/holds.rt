@@ -37,8 +37,8 @@ pub fn take<R: Wait>(rt: &R, arena: &Arena, pass: &mut Pass, object: u32)
     unreachable!()
 }
 
-/// Takes the lock of an object that has parts, once. True where the lock is held now; else it was held, and nothing is in
-/// flight.
+/// Takes the lock of an object that has parts, once. True where the pass holds it now; else it was held, and nothing is
+/// in flight.
 pub fn try_take(arena: &Arena, pass: &mut Pass, object: u32) -> bool
     requires arena { IsOf arena.now pass.old }
     requires object { HasParts arena.now.shape object }

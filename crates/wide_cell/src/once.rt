@@ -1,6 +1,6 @@
-//! A call on an object with parts that waits for nobody. It is for a caller who must not wait: an interrupt handler, which
-//! may have interrupted the lock's holder, or a thread whose partner may have stopped under the lock. C11 has no such
-//! call, and libatomic's calls wait as long as a stopped thread holds their lock.
+//! A call on an object with parts that waits for nobody. It is for a caller who must not wait: an interrupt handler,
+//! which may have interrupted the lock's holder, or a thread whose partner may have stopped under the lock. C11 has no
+//! such call, and libatomic's calls wait as long as a stopped thread holds their lock.
 
 ghost use Rattle.std.specs.Prelude.{◌≡◌, false, IfSome, IfNone};
 ghost use Rattle.op_table.specs.Call.{CallFits};
