@@ -106,7 +106,8 @@ fixed_from-at lines n (suc o) (cell ∷ cells) =
     ∙ ap (λ (m : ℕ). option_map (λ c. fixed_by (Some c) (calls_on m lines)) (slice_get cells o)) (let e : n + 1 + o ≡ n + suc o = omega arith in e)
 
 -- one value a cell
-pub length-fixed_from : (lines : List Line) (n : ℕ) (cells : List Cell) → length (fixed_from lines n cells) ≡ length cells
+pub length-fixed_from : (lines : List Line) (n : ℕ) (cells : List Cell)
+    → length (fixed_from lines n cells) ≡ length cells
 length-fixed_from lines n [] = refl
 length-fixed_from lines n (cell ∷ cells) = ap suc (length-fixed_from lines (n + 1) cells)
 

@@ -38,8 +38,10 @@ pub no_reply : (objects : List Declared) (lines : List Line) (rs : List Reply) (
 no_reply objects [] rs i past all = refl
 no_reply objects (l ∷ lines) rs i past all = absurd (omega (arith, left_alike objects (l ∷ lines) rs i all))
 
-pub last_lines_at : (ds : List Declared) (rs : List Reply) (fs : List (Option ℕ)) (i : ℕ) (d : Declared) (r : Reply) (f : Option ℕ) → slice_get ds i ≡ Some d → slice_get rs i ≡ Some r → slice_get fs i ≡ Some f
-    → last_lines (drop i ds) (drop i rs) (drop i fs) ≡ (last_line d r f ∷ []) ++ last_lines (drop (i + 1) ds) (drop (i + 1) rs) (drop (i + 1) fs)
+pub last_lines_at : (ds : List Declared) (rs : List Reply) (fs : List (Option ℕ)) (i : ℕ) (d : Declared) (r : Reply) (f : Option ℕ)
+    → slice_get ds i ≡ Some d → slice_get rs i ≡ Some r → slice_get fs i ≡ Some f
+    → last_lines (drop i ds) (drop i rs) (drop i fs)
+    ≡ (last_line d r f ∷ []) ++ last_lines (drop (i + 1) ds) (drop (i + 1) rs) (drop (i + 1) fs)
 last_lines_at ds rs fs i d r f atd atr atf =
     ap (λ x. last_lines x (drop i rs) (drop i fs)) (drop-next ds i d atd)
     ∙ ap (λ x. last_lines (d ∷ drop (i + 1) ds) x (drop i fs)) (drop-next rs i r atr)
@@ -56,12 +58,15 @@ answer_parts objects scripts ks script k some more is at all =
     subst (λ l. AnswerThreads objects (map script_lines (script ∷ others scripts)) (map items_of l)) (item_others ks k more at)
     (subst (λ l. AnswerThreads objects (map script_lines l) (map items_of ks)) (item_others scripts script some is) all)
 
-pub last_lines_end : (ds : List Declared) (rs : List Reply) (fs : List (Option ℕ)) (i : ℕ) → length ds ≤ i → last_lines (drop i ds) (drop i rs) (drop i fs) ≡ []
+pub last_lines_end : (ds : List Declared) (rs : List Reply) (fs : List (Option ℕ)) (i : ℕ) → length ds ≤ i
+    → last_lines (drop i ds) (drop i rs) (drop i fs) ≡ []
 last_lines_end ds rs fs i past = ap (λ x. last_lines x (drop i rs) (drop i fs)) (drop_all i ds past)
 
 -- the parts of a report, of the objects and threads of its workload
-pub lines_made : (w : Workload) (t : Target) (os : List Declared) (ts : List (List Line)) (replies : List (List Reply)) (last : List Reply) (fixed : List (Option ℕ)) → t ≡ w.target → os ≡ w.objects → ts ≡ w.threads
-    → (target_line t ∷ []) ++ (thread_lines os 1 ts replies ++ ((codes "last\n" ∷ []) ++ last_lines os last fixed)) ≡ lines_with w replies last fixed
+pub lines_made : (w : Workload) (t : Target) (os : List Declared) (ts : List (List Line)) (replies : List (List Reply)) (last : List Reply)
+    (fixed : List (Option ℕ)) → t ≡ w.target → os ≡ w.objects → ts ≡ w.threads
+    → (target_line t ∷ []) ++ (thread_lines os 1 ts replies ++ ((codes "last\n" ∷ []) ++ last_lines os last fixed))
+    ≡ lines_with w replies last fixed
 lines_made w t os ts replies last fixed target objects threads =
     ap (λ x. target_line x ∷ (thread_lines os 1 ts replies ++ codes "last\n" ∷ last_lines os last fixed)) target
     ∙ ap (λ x. target_line w.target ∷ (thread_lines x 1 ts replies ++ codes "last\n" ∷ last_lines x last fixed)) objects

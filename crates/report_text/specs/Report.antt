@@ -65,7 +65,9 @@ last_lines (d ∷ ds) (r ∷ rs) (f ∷ fs) = last_line d r f ∷ last_lines ds 
 
 -- the lines with these replies of the threads and of the last loads, and these fixed values
 abbrev pub lines_with : Workload → List (List Reply) → List Reply → List (Option ℕ) → List (List ℕ)
-lines_with w replies last fixed = target_line w.target ∷ (thread_lines w.objects 1 w.threads replies ++ codes "last\n" ∷ last_lines w.objects last fixed)
+lines_with w replies last fixed =
+    target_line w.target
+    ∷ (thread_lines w.objects 1 w.threads replies ++ codes "last\n" ∷ last_lines w.objects last fixed)
 
 -- ---- of a history
 

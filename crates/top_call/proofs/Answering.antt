@@ -172,8 +172,12 @@ last_answers e rs work ran same = let run = ran.1.run.run in
 -- ---- scripts of a workload
 
 -- the shape is laid for the target and the objects of the workload
-pub laid_for : (w : Workload) (S : Shape) (t : Target) (ds : List Declared) → S ≡ shape_of t ds → t ≡ w.target → ds ≡ w.objects → S ≡ shape_of w.target w.objects
-laid_for w S t ds laid target objects = laid ∙ ap (λ (u : Target). shape_of u ds) target ∙ ap (λ (os : List Declared). shape_of w.target os) objects
+pub laid_for : (w : Workload) (S : Shape) (t : Target) (ds : List Declared)
+    → S ≡ shape_of t ds → t ≡ w.target → ds ≡ w.objects → S ≡ shape_of w.target w.objects
+laid_for w S t ds laid target objects =
+    laid
+    ∙ ap (λ (u : Target). shape_of u ds) target
+    ∙ ap (λ (os : List Declared). shape_of w.target os) objects
 
 cell_there : (ds : List Declared) (o : ℕ) (d : Declared) → slice_get ds o ≡ Some d → slice_get (cells_of ds) o ≡ Some (cell_of d)
 cell_there [] o d at = absurd cc
@@ -199,7 +203,8 @@ declared_fit ds [] fits = tt
 declared_fit ds (lines ∷ threads) fits = (script_fits ds lines fits.0, declared_fit ds threads fits.1)
 
 -- lines that fit the objects fit the shape that is laid for them
-pub laid_fit : (w : Workload) (S : Shape) (threads : List (List Line)) → S ≡ shape_of w.target w.objects → threads ≡ w.threads → AllByRecursion (AllByRecursion (LineFits w.objects)) w.threads → ScriptsFit (cells_of_shape S) threads
+pub laid_fit : (w : Workload) (S : Shape) (threads : List (List Line)) → S ≡ shape_of w.target w.objects → threads ≡ w.threads
+    → AllByRecursion (AllByRecursion (LineFits w.objects)) w.threads → ScriptsFit (cells_of_shape S) threads
 laid_fit w S threads laid same fits =
     subst (λ (Z : Shape). ScriptsFit (cells_of_shape Z) threads) (sym laid)
     (subst (λ (cells : List Cell). ScriptsFit cells threads) (sym (laid_has_cells w.target w.objects))
@@ -208,7 +213,8 @@ laid_fit w S threads laid same fits =
 -- ---- fixed values
 
 -- the objects of the shape that is laid have the declared ones' fixed values
-pub laid_fixed : (w : Workload) (S : Shape) (threads : List (List Line)) (fixed : List (Option ℕ)) → S ≡ shape_of w.target w.objects → threads ≡ w.threads
+pub laid_fixed : (w : Workload) (S : Shape) (threads : List (List Line)) (fixed : List (Option ℕ))
+    → S ≡ shape_of w.target w.objects → threads ≡ w.threads
     → fixed ≡ fixed_values_of (cells_of_shape S) threads → fixed ≡ fixed_of w
 laid_fixed w S threads fixed laid same told =
     told

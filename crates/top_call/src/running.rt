@@ -19,7 +19,8 @@ use std::thread::Threads;
 use whole_run::run_whole;
 use work_lang::{Sink, Work, WriteEnd};
 
-/// A run that ended, the fixed values that were told before it, the replies of each thread, and those of the last loads.
+/// A run that ended, the fixed values that were told before it, the replies of each thread, and those of the last
+/// loads.
 #[derive(Drop)]
 struct Ran {
     ended: Ended,
@@ -28,8 +29,8 @@ struct Ran {
     last: Replies,
 }
 
-/// Lays the objects of a workload, tells their fixed values, and runs its scripts on an arena of that shape. The scripts
-/// are not copied: the run takes them, and the workload gets them back.
+/// Lays the objects of a workload, tells their fixed values, and runs its scripts on an arena of that shape. The
+/// scripts are not copied: the run takes them, and the workload gets them back.
 fn run_scripts<R: Threads + Wait + Sync, G: Gate>(
     rt: &R,
     alloc: Global,

@@ -1,4 +1,4 @@
-use Rattle.std.proofs.Common.{arith}
+use Rattle.std.proofs.Common.{◌≤◌, arith, length}
 use Rattle.work_lang.proofs.Pieces.{wrote_more, wrote_stops, wrote_all}
 use Rattle.report_text.proofs.Walks.{all_at, get_at, pairs_at, pairs_length}
 use Rattle.report_text.proofs.LineSteps.{last_lines_at, last_lines_end}
@@ -23,15 +23,21 @@ write_last_value-requires-clause-fits g c =
 pub returns-in-Err : goal.returns-in-Err
 returns-in-Err g c =
     let there = get_at c.args.objects.now c.objects.i c.index-objects-i.result (omega (arith, pairs_length _ c.args.objects.now c.args.last.now.items c.requires.answers)) c.index-objects-i.is in
-    wrote_stops _ (last_lines_at c.args.objects.now c.args.last.now.items c.args.fixed.now c.objects.i c.index-objects-i.result c.at.result.now c.at-told.result there c.at.ensures c.at-told.ensures) c.in-Err.is c.objects.invariant.wrote c.write_last_value.ensures
+    let step = last_lines_at c.args.objects.now c.args.last.now.items c.args.fixed.now c.objects.i
+    c.index-objects-i.result c.at.result.now c.at-told.result there c.at.ensures c.at-told.ensures in
+    wrote_stops _ step c.in-Err.is c.objects.invariant.wrote c.write_last_value.ensures
 
 pub objects-preserved : goal.objects-preserved
 objects-preserved g c =
     let there = get_at c.args.objects.now c.objects.i c.index-objects-i.result (omega (arith, pairs_length _ c.args.objects.now c.args.last.now.items c.requires.answers)) c.index-objects-i.is in
+    let step = last_lines_at c.args.objects.now c.args.last.now.items c.args.fixed.now c.objects.i
+    c.index-objects-i.result c.at.result.now c.at-told.result there c.at.ensures c.at-told.ensures in
     record {
       within = omega arith;
-      wrote = wrote_more (last_lines_at c.args.objects.now c.args.last.now.items c.args.fixed.now c.objects.i c.index-objects-i.result c.at.result.now c.at-told.result there c.at.ensures c.at-told.ensures) c.in-Ok.is c.objects.invariant.wrote c.write_last_value.ensures;
+      wrote = wrote_more step c.in-Ok.is c.objects.invariant.wrote c.write_last_value.ensures;
     }
 
 pub returns : goal.returns
-returns g c = wrote_all _ (last_lines_end c.args.objects.now c.args.last.now.items c.args.fixed.now c.objects.i (omega (arith, pairs_length _ c.args.objects.now c.args.last.now.items c.requires.answers))) c.objects.invariant.wrote
+returns g c =
+    let past : length c.args.objects.now ≤ c.objects.i = omega (arith, pairs_length _ c.args.objects.now c.args.last.now.items c.requires.answers) in
+    wrote_all _ (last_lines_end c.args.objects.now c.args.last.now.items c.args.fixed.now c.objects.i past) c.objects.invariant.wrote
