@@ -42,15 +42,9 @@ impl Served {
     {
         match arena.plan(self.object, call) {
             Path::One(op) => pass.step_op(arena, self.object, call, op),
-            // A copy goes there, so that the call itself stays in registers.
-            Path::Loop => {
-                let call = *call;
-                by_loop(rt, arena, pass, self.object, &call)
-            }
-            Path::Locked => {
-                let call = *call;
-                by_lock(rt, arena, pass, self.object, &call)
-            }
+            // The call itself goes there, so that it stays in registers where one step makes it.
+            Path::Loop => by_loop(rt, arena, pass, self.object, *call),
+            Path::Locked => by_lock(rt, arena, pass, self.object, *call),
         }
     }
 
@@ -72,14 +66,8 @@ impl Served {
     {
         match arena.plan(self.object, call) {
             Path::One(step) => pass.step_op(arena, self.object, call, step),
-            Path::Loop => {
-                let call = *call;
-                by_tries::<V, R>(rt, arena, pass, self.object, &call)
-            }
-            Path::Locked => {
-                let call = *call;
-                under_lock::<V, R>(rt, arena, pass, self.object, &call)
-            }
+            Path::Loop => by_tries::<V, R>(rt, arena, pass, self.object, call),
+            Path::Locked => under_lock::<V, R>(rt, arena, pass, self.object, *call),
         }
     }
 
@@ -127,20 +115,20 @@ fn by_tries<V: Scalar, R: Wait>(
 
 /// Makes a call whose plan is a loop, at the type of the object's kind.
 #[inline(never)]
-fn by_loop<R: Wait>(rt: &R, arena: &Arena, pass: &mut Pass, object: u32, call: &Call) -> Reply
+fn by_loop<R: Wait>(rt: &R, arena: &Arena, pass: &mut Pass, object: u32, call: Call) -> Reply
     requires arena { IsOf arena.now pass.old }
     requires object { object < length arena.now.shape.objects }
-    requires fits { CallFits (kind_of arena.now.shape object) call.now }
-    requires loops { plan_of arena.now.shape object call.now ≡ Loop }
+    requires fits { CallFits (kind_of arena.now.shape object) call }
+    requires loops { plan_of arena.now.shape object call ≡ Loop }
     requires rest { pass.old.flight ≡ Idle }
-    ensures { Serves arena.now.shape object call.now pass.old result pass.new }
+    ensures { Serves arena.now.shape object call pass.old result pass.new }
 {
     let Some(lane) = Lane::of(arena.shape(), object) else {
         unreachable!()
     };
     fits_in_word(arena, lane.object());
     let kind = kind_at(arena, object);
-    at_word_kind!(kind, by_tries, R, (rt, arena, pass, object, call))
+    at_word_kind!(kind, by_tries, R, (rt, arena, pass, object, &call))
 }
 
 /// Makes a call whose plan is a lock, on an object of the type: the section's lock, or that of the object's parts.
@@ -149,31 +137,31 @@ fn under_lock<V: Scalar, R: Wait>(
     arena: &Arena,
     pass: &mut Pass,
     object: u32,
-    call: &Call,
+    call: Call,
 ) -> Reply
     requires arena { IsOf arena.now pass.old }
     requires object { object < length arena.now.shape.objects }
     requires kind { V.KIND ≡ kind_of arena.now.shape object }
-    requires fits { CallFits (kind_of arena.now.shape object) call.now }
-    requires locked { plan_of arena.now.shape object call.now ≡ Locked }
+    requires fits { CallFits (kind_of arena.now.shape object) call }
+    requires locked { plan_of arena.now.shape object call ≡ Locked }
     requires rest { pass.old.flight ≡ Idle }
-    ensures { Serves arena.now.shape object call.now pass.old result pass.new }
+    ensures { Serves arena.now.shape object call pass.old result pass.new }
 {
     if arena.shape().section {
-        return critical_cell::call::<V, R>(rt, arena, pass, object, call);
+        return critical_cell::call::<V, R>(rt, arena, pass, object, &call);
     }
-    wide_cell::call::<V, R>(rt, arena, pass, object, call)
+    wide_cell::call::<V, R>(rt, arena, pass, object, &call)
 }
 
 /// Makes a call whose plan is a lock, at the type of the object's kind.
 #[inline(never)]
-fn by_lock<R: Wait>(rt: &R, arena: &Arena, pass: &mut Pass, object: u32, call: &Call) -> Reply
+fn by_lock<R: Wait>(rt: &R, arena: &Arena, pass: &mut Pass, object: u32, call: Call) -> Reply
     requires arena { IsOf arena.now pass.old }
     requires object { object < length arena.now.shape.objects }
-    requires fits { CallFits (kind_of arena.now.shape object) call.now }
-    requires locked { plan_of arena.now.shape object call.now ≡ Locked }
+    requires fits { CallFits (kind_of arena.now.shape object) call }
+    requires locked { plan_of arena.now.shape object call ≡ Locked }
     requires rest { pass.old.flight ≡ Idle }
-    ensures { Serves arena.now.shape object call.now pass.old result pass.new }
+    ensures { Serves arena.now.shape object call pass.old result pass.new }
 {
     let kind = kind_at(arena, object);
     at_any_kind!(kind, under_lock, R, (rt, arena, pass, object, call))
