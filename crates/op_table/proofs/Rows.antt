@@ -1,14 +1,19 @@
--- The table of operations stays within a kind's values.
-use Rattle.std.proofs.Common.{Bool, true, false, cond, eqb, ltb, ℕ, ◌+◌, ◌-◌, ◌%◌, ◌<◌, arith, mod-lt}
+-- The rows of the table: it stays within a kind's values, and each call is an operation of the kind's class.
+use Rattle.std.proofs.Common.{◌≡◌, ◌≢◌, ◌⊎◌, Bool, true, false, cond, eqb, ltb, ℕ, ◌+◌, ◌-◌, ◌%◌, ◌<◌, arith, mod-lt, inl, inr, refl, true≢false}
 use Rattle.std.proofs.lemmas.Nat.{or_lt, xor_lt, and_le_l, pow_below, pow_pos}
 use Rattle.op_table.specs.declared.kind.Kind.{Kind}
 use Rattle.op_table.specs.declared.kind.Width.{Width}
 use Rattle.op_table.specs.declared.kind.Width.TheVariants.{W1, W8, W16, W32, W64, W128}
+use Rattle.op_table.specs.declared.kind.Class.{Class}
+use Rattle.op_table.specs.declared.kind.Class.TheVariants as class
+use Rattle.op_table.specs.declared.call.Call.TheVariants as call
+use Rattle.op_table.specs.declared.words.Operation.TheVariants as op
 use Rattle.op_table.specs.declared.call.Call.TheVariants.{Load, Store, Swap, Cas, CasWeak, Add, Sub, And, Nand, Or, Xor, Max, Min, Not, Neg, BitSet, BitClear, BitToggle}
 use Rattle.op_table.specs.declared.call.Reply.TheVariants as reply
 use Rattle.op_table.specs.Kind.{bits_of, values_of}
 use Rattle.op_table.specs.Call.{rank_of, bit_place, unless_quiet, ReplyFits}
-use Rattle.op_table.specs.Laws.{AfterFits, AnswerFits}
+use Rattle.op_table.specs.Words.{has_operation, loud_or_quiet, sum_operation}
+use Rattle.op_table.specs.Laws.{AfterFits, AnswerFits, CallHasOperation}
 
 one_of : (b : Bool) (x y most : ℕ) → x < most → y < most → cond b x y < most
 one_of true x y most p q = p
@@ -75,3 +80,66 @@ answer_fits kind (Neg q) v is fits small = quiet_fits kind q v small
 answer_fits kind (BitSet p) v is fits small = tt
 answer_fits kind (BitClear p) v is fits small = tt
 answer_fits kind (BitToggle p) v is fits small = tt
+
+-- ---- calls
+
+sum_has : (c : Class) (q : Bool) → (c ≡ class.Int) ⊎ ((c ≡ class.Ptr) × (q ≡ false)) → (has_operation c (sum_operation c q op.FetchAdd op.Add op.FetchByteAdd) ≡ true) × (has_operation c (sum_operation c q op.FetchSub op.Sub op.FetchByteSub) ≡ true)
+sum_has class.Int true fits = (refl, refl)
+sum_has class.Int false fits = (refl, refl)
+sum_has class.Ptr q fits = (refl, refl)
+sum_has class.Bool q (inl is) = absurd cc
+sum_has class.Bool q (inr is) = absurd (no_class is.0)
+  where
+    no_class : class.Bool ≡ class.Ptr → ⊥
+    no_class e = cc
+
+logic_has : (c : Class) (q : Bool) → (c ≡ class.Ptr → q ≡ false) → (has_operation c (loud_or_quiet q op.FetchAnd op.And) ≡ true) × (has_operation c (loud_or_quiet q op.FetchOr op.Or) ≡ true) × (has_operation c (loud_or_quiet q op.FetchXor op.Xor) ≡ true)
+logic_has class.Int true fits = (refl, refl, refl)
+logic_has class.Int false fits = (refl, refl, refl)
+logic_has class.Bool true fits = (refl, refl, refl)
+logic_has class.Bool false fits = (refl, refl, refl)
+logic_has class.Ptr false fits = (refl, refl, refl)
+logic_has class.Ptr true fits = absurd (true≢false (fits refl))
+
+each_has : (c : Class) → (has_operation c op.Load ≡ true) × (has_operation c op.Store ≡ true) × (has_operation c op.Swap ≡ true) × (has_operation c op.CompareExchange ≡ true) × (has_operation c op.CompareExchangeWeak ≡ true)
+each_has class.Int = (refl, refl, refl, refl, refl)
+each_has class.Bool = (refl, refl, refl, refl, refl)
+each_has class.Ptr = (refl, refl, refl, refl, refl)
+
+not_has : (c : Class) (q : Bool) → c ≢ class.Ptr → (has_operation c (loud_or_quiet q op.FetchNot op.Not) ≡ true) × (has_operation c op.FetchNand ≡ true)
+not_has class.Int true fits = (refl, refl)
+not_has class.Int false fits = (refl, refl)
+not_has class.Bool true fits = (refl, refl)
+not_has class.Bool false fits = (refl, refl)
+not_has class.Ptr q fits = absurd (fits refl)
+
+bit_has : (c : Class) → c ≢ class.Bool → (has_operation c op.BitSet ≡ true) × (has_operation c op.BitClear ≡ true) × (has_operation c op.BitToggle ≡ true)
+bit_has class.Int fits = (refl, refl, refl)
+bit_has class.Ptr fits = (refl, refl, refl)
+bit_has class.Bool fits = absurd (fits refl)
+
+int_has : (c : Class) (q : Bool) → c ≡ class.Int → (has_operation c op.FetchMax ≡ true) × (has_operation c op.FetchMin ≡ true) × (has_operation c (loud_or_quiet q op.FetchNeg op.Neg) ≡ true)
+int_has class.Int true fits = (refl, refl, refl)
+int_has class.Int false fits = (refl, refl, refl)
+int_has class.Bool q fits = absurd cc
+int_has class.Ptr q fits = absurd cc
+
+pub call_has_operation : CallHasOperation
+call_has_operation kind call.Load is fits = (each_has kind.class).0
+call_has_operation kind (call.Store a) is fits = (each_has kind.class).1
+call_has_operation kind (call.Swap a) is fits = (each_has kind.class).2
+call_has_operation kind (call.Cas e n) is fits = (each_has kind.class).3
+call_has_operation kind (call.CasWeak e n) is fits = (each_has kind.class).4
+call_has_operation kind (call.Add a q) is fits = (sum_has kind.class q fits.1).0
+call_has_operation kind (call.Sub a q) is fits = (sum_has kind.class q fits.1).1
+call_has_operation kind (call.And a q) is fits = (logic_has kind.class q fits.1).0
+call_has_operation kind (call.Nand a) is fits = (not_has kind.class false fits.1).1
+call_has_operation kind (call.Or a q) is fits = (logic_has kind.class q fits.1).1
+call_has_operation kind (call.Xor a q) is fits = (logic_has kind.class q fits.1).2
+call_has_operation kind (call.Max a) is fits = (int_has kind.class false fits.1).0
+call_has_operation kind (call.Min a) is fits = (int_has kind.class false fits.1).1
+call_has_operation kind (call.Not q) is fits = (not_has kind.class q fits).0
+call_has_operation kind (call.Neg q) is fits = (int_has kind.class q fits).2
+call_has_operation kind (call.BitSet p) is fits = (bit_has kind.class fits).0
+call_has_operation kind (call.BitClear p) is fits = (bit_has kind.class fits).1
+call_has_operation kind (call.BitToggle p) is fits = (bit_has kind.class fits).2

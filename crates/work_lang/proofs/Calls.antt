@@ -11,7 +11,8 @@ use Rattle.op_table.specs.declared.order.Order.{Order}
 use Rattle.op_table.specs.Kind.{IsKind}
 use Rattle.op_table.specs.Call.{CallFits}
 use Rattle.op_table.specs.Words.{operation_word, operation_of_word, has_operation, operation_of, call_word}
-use Rattle.op_table.proofs.WordTables.{operation_word_is_read, operation_has_one_word, call_has_operation}
+use Rattle.op_table.proofs.Rows.{call_has_operation}
+use Rattle.op_table.proofs.WordTables.{operation_word_is_read, operation_has_one_word}
 use Rattle.place_core.specs.declared.name.Declared.{Declared}
 use Rattle.place_core.specs.declared.script.Line.{Line}
 use Rattle.work_lang.specs.declared.fault.Cause.TheVariants as causes
