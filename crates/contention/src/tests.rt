@@ -1,9 +1,10 @@
 //! Runs in which threads get in each other's way. What is wanted was worked out by arithmetic modulo the number of values.
 
-use place_core::OpenGate;
+use place_core::{Gate, OpenGate};
 use std::alloc::Global;
 use std::process::Abort;
 use std::sync::Wait;
+use std::sync::atomic::{AtomicBool, Ordering};
 use std::test::*;
 use std::thread::Threads;
 use top_call::{Status, portable_call};
@@ -35,6 +36,25 @@ fn last_of(report: &str) -> Option<&str> {
     Some(last)
 }
 
+/// Runs a workload under a gate, and compares the last values.
+fn run_ends_at<R: Threads + Wait + Sync + Abort, G: Gate>(
+    rt: &R,
+    alloc: Global,
+    text: &str,
+    gate: &G,
+    wanted: &str,
+) -> Result<(), Fail> {
+    let mut words = Vec::new(alloc);
+    words.push(String::from_str(alloc, "run")?)?;
+    let mut source = SureSource::of(text.as_bytes());
+    let mut sink = MemSink::of(alloc, 4_194_304, 65_536, &[])?;
+    let outcome = portable_call(rt, alloc, &words, &mut source, &mut sink, gate);
+    assert_eq!(rt; outcome.status, Status::Done);
+    let report = str::from_utf8(sink.bytes())?;
+    assert_eq!(rt; last_of(report), Some(wanted));
+    Ok(())
+}
+
 /// Runs a workload of these objects and threads on a target, and compares the last values. Each thread makes its calls
 /// so many times over.
 fn ends_at<R: Threads + Wait + Sync + Abort>(
@@ -50,15 +70,7 @@ fn ends_at<R: Threads + Wait + Sync + Abort>(
     for calls in threads {
         push_thread(&mut text, calls, times)?;
     }
-    let mut words = Vec::new(alloc);
-    words.push(String::from_str(alloc, "run")?)?;
-    let mut source = SureSource::of(text.as_bytes());
-    let mut sink = MemSink::of(alloc, 4_194_304, 65_536, &[])?;
-    let outcome = portable_call(rt, alloc, &words, &mut source, &mut sink, &OpenGate);
-    assert_eq!(rt; outcome.status, Status::Done, "on {target}");
-    let report = str::from_utf8(sink.bytes())?;
-    assert_eq!(rt; last_of(report), Some(wanted), "on {target}");
-    Ok(())
+    run_ends_at(rt, alloc, &text, &OpenGate, wanted)
 }
 
 /// Four threads add to one u128 and subtract from another; on a target with one lock both are under it.
@@ -156,5 +168,62 @@ fn sums_carry_over_words(rt: HostRuntime) -> Result<(), Fail> {
             "g 17179869188000 fixed\n",
         )?;
     }
+    Ok(())
+}
+
+// ---- a stopped caller
+
+/// How often a gate looks before it gives up.
+const TURNS: u32 = 100_000_000;
+
+/// Holds thread 1 before its second call until another thread's thousandth was answered.
+#[derive(Drop)]
+struct Stops {
+    answered: AtomicBool,
+    gave_up: AtomicBool,
+}
+
+/// Whether a flag was seen within so many turns.
+fn sees(flag: &AtomicBool) -> bool {
+    for _ in 0..TURNS {
+        if flag.load(Ordering::SeqCst) {
+            return true;
+        }
+        std::hint::spin_loop();
+    }
+    false
+}
+
+impl Gate for Stops {
+    fn before(&self, thread: u32, call: u32) {
+        if thread == 1 && call == 2 && !sees(&self.answered) {
+            self.gave_up.store(true, Ordering::SeqCst);
+        }
+    }
+
+    fn after(&self, thread: u32, call: u32) {
+        if thread == 2 && call == 1000 {
+            self.answered.store(true, Ordering::SeqCst);
+        }
+    }
+}
+
+/// A thread that stops between two calls holds no other off: 2 and 1000 additions to a u8.
+#[test]
+fn stopped_caller_holds_nobody_off(rt: HostRuntime) -> Result<(), Fail> {
+    let alloc = rt.alloc();
+    let gate = Stops {
+        answered: AtomicBool::new(false),
+        gave_up: AtomicBool::new(false),
+    };
+    let add = "c fetch_add 1\n";
+    let mut text = String::from_str(alloc, "work 1\ntarget word64\nobject c u8 0\n")?;
+    push_thread(&mut text, add, 2)?;
+    push_thread(&mut text, add, 1000)?;
+    run_ends_at(&rt, alloc, &text, &gate, "c 234 fixed\n")?;
+    assert!(rt;
+        !gate.gave_up.load(Ordering::SeqCst),
+        "thread 1 was held for ever"
+    );
     Ok(())
 }
