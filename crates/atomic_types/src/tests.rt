@@ -57,9 +57,21 @@ fn section_makes_nothing_at_once(rt: HostRuntime) -> Result<(), Fail> {
     let byte = object(Width::W8, 250).ok_or("an object")?;
     let (arena, mut root) = open(rt.alloc(), b"section32", &[byte]).ok_or("it opens")?;
     let mut p = give(&arena, &mut root).ok_or("a number is left")?;
-    assert!(rt; make(&rt, &arena, &mut p, 0, Call::Store(9)) == Some(Reply::Unit));
-    assert!(rt; make(&rt, &arena, &mut p, 0, Call::Load) == Some(Reply::Value(9)));
-    assert!(rt; make_now(&arena, &mut p, 0, Call::Load) == Some(None));
+    assert_eq!(rt;
+        make(&rt, &arena, &mut p, 0, Call::Store(9)),
+        Some(Reply::Unit),
+        "make(0, Call::Store(9))"
+    );
+    assert_eq!(rt;
+        make(&rt, &arena, &mut p, 0, Call::Load),
+        Some(Reply::Value(9)),
+        "make(0, Call::Load)"
+    );
+    assert_eq!(rt;
+        make_now(&arena, &mut p, 0, Call::Load),
+        Some(None),
+        "make_now(0, Call::Load)"
+    );
     Ok(())
 }
 
@@ -69,10 +81,26 @@ fn one_step_is_made_at_once_and_no_loop(rt: HostRuntime) -> Result<(), Fail> {
     let b = object(Width::W8, 7).ok_or("an object")?;
     let (arena, mut root) = open(rt.alloc(), b"word64", &[a, b]).ok_or("it opens")?;
     let mut p = give(&arena, &mut root).ok_or("a number is left")?;
-    assert!(rt; make_now(&arena, &mut p, 0, Call::Add(10, false)) == Some(None));
-    assert!(rt; make_now(&arena, &mut p, 0, Call::Load) == Some(Some(Reply::Value(250))));
-    assert!(rt; make_now(&arena, &mut p, 0, Call::Or(4, false)) == Some(Some(Reply::Value(250))));
-    assert!(rt; make_now(&arena, &mut p, 0, Call::Load) == Some(Some(Reply::Value(254))));
+    assert_eq!(rt;
+        make_now(&arena, &mut p, 0, Call::Add(10, false)),
+        Some(None),
+        "make_now(0, Call::Add(10, false))"
+    );
+    assert_eq!(rt;
+        make_now(&arena, &mut p, 0, Call::Load),
+        Some(Some(Reply::Value(250))),
+        "make_now(0, Call::Load)"
+    );
+    assert_eq!(rt;
+        make_now(&arena, &mut p, 0, Call::Or(4, false)),
+        Some(Some(Reply::Value(250))),
+        "make_now(0, Call::Or(4, false))"
+    );
+    assert_eq!(rt;
+        make_now(&arena, &mut p, 0, Call::Load),
+        Some(Some(Reply::Value(254))),
+        "make_now(0, Call::Load)"
+    );
     assert!(rt; make_now(&arena, &mut p, 2, Call::Load).is_none());
     Ok(())
 }
@@ -84,10 +112,26 @@ fn loop_keeps_a_neighbour(rt: HostRuntime) -> Result<(), Fail> {
     let (arena, mut root) = open(rt.alloc(), b"word64", &[a, b]).ok_or("it opens")?;
     let mut p = give(&arena, &mut root).ok_or("a number is left")?;
     let add = Call::Add(10, false);
-    assert!(rt; make(&rt, &arena, &mut p, 0, add) == Some(Reply::Value(250)));
-    assert!(rt; make(&rt, &arena, &mut p, 0, Call::CasWeak(4, 5)) == Some(Reply::Done(4)));
-    assert!(rt; make(&rt, &arena, &mut p, 0, Call::CasWeak(4, 6)) == Some(Reply::Failed(5)));
-    assert!(rt; make(&rt, &arena, &mut p, 1, Call::Load) == Some(Reply::Value(7)));
+    assert_eq!(rt;
+        make(&rt, &arena, &mut p, 0, add),
+        Some(Reply::Value(250)),
+        "make(0, add)"
+    );
+    assert_eq!(rt;
+        make(&rt, &arena, &mut p, 0, Call::CasWeak(4, 5)),
+        Some(Reply::Done(4)),
+        "make(0, Call::CasWeak(4, 5))"
+    );
+    assert_eq!(rt;
+        make(&rt, &arena, &mut p, 0, Call::CasWeak(4, 6)),
+        Some(Reply::Failed(5)),
+        "make(0, Call::CasWeak(4, 6))"
+    );
+    assert_eq!(rt;
+        make(&rt, &arena, &mut p, 1, Call::Load),
+        Some(Reply::Value(7)),
+        "make(1, Call::Load)"
+    );
     Ok(())
 }
 
@@ -96,9 +140,17 @@ fn parts_carry(rt: HostRuntime) -> Result<(), Fail> {
     let wide = object(Width::W128, u64::MAX as u128).ok_or("an object")?;
     let (arena, mut root) = open(rt.alloc(), b"full64", &[wide]).ok_or("it opens")?;
     let mut p = give(&arena, &mut root).ok_or("a number is left")?;
-    assert!(rt; make_now(&arena, &mut p, 0, Call::Load) == Some(None));
+    assert_eq!(rt;
+        make_now(&arena, &mut p, 0, Call::Load),
+        Some(None),
+        "make_now(0, Call::Load)"
+    );
     let add = Call::Add(1, false);
-    assert!(rt; make(&rt, &arena, &mut p, 0, add) == Some(Reply::Value(18446744073709551615)));
+    assert_eq!(rt;
+        make(&rt, &arena, &mut p, 0, add),
+        Some(Reply::Value(18446744073709551615)),
+        "make(0, add)"
+    );
     assert!(rt;
         make(&rt, &arena, &mut p, 0, Call::Load) == Some(Reply::Value(18446744073709551616))
     );

@@ -11,9 +11,9 @@ fn carry_stays_in_its_lane(rt: HostRuntime) -> Result<(), Fail> {
     let (arena, mut root) = open(rt.alloc(), b"word64", &[a, b]).ok_or("it opens")?;
     let mut p = give(&arena, &mut root).ok_or("a number is left")?;
     let add = turn(&rt, &arena, &mut p, 0, Call::Add(10, false));
-    assert!(rt; add == Some(Reply::Value(250)));
-    assert!(rt; load(&arena, &mut p, 0) == Some(4));
-    assert!(rt; load(&arena, &mut p, 1) == Some(7));
+    assert_eq!(rt; add, Some(Reply::Value(250)), "add");
+    assert_eq!(rt; load(&arena, &mut p, 0), Some(4), "load(0)");
+    assert_eq!(rt; load(&arena, &mut p, 1), Some(7), "load(1)");
     Ok(())
 }
 
@@ -26,12 +26,28 @@ fn weak_exchange_fails_after_a_neighbours_sum(rt: HostRuntime) -> Result<(), Fai
     let (arena, mut root) = open(rt.alloc(), b"word64", &[a, b]).ok_or("it opens")?;
     let mut p = give(&arena, &mut root).ok_or("a number is left")?;
     let mut q = give(&arena, &mut root).ok_or("a number is left")?;
-    assert!(rt; look(&arena, &mut q, 1, WEAK) == Some(Err(0x07FA)));
+    assert_eq!(rt;
+        look(&arena, &mut q, 1, WEAK),
+        Some(Err(0x07FA)),
+        "look(1, WEAK)"
+    );
     let add = turn(&rt, &arena, &mut p, 0, Call::Add(10, false));
-    assert!(rt; add == Some(Reply::Value(250)));
-    assert!(rt; attempt(&arena, &mut q, 1, WEAK, 0x07FA) == Some(Ok(Reply::Failed(7))));
-    assert!(rt; weak(&arena, &mut q, 1, 7, 8) == Some(Reply::Done(7)));
-    assert!(rt; look(&arena, &mut q, 0, Call::Add(1, false)) == Some(Err(0x0804)));
+    assert_eq!(rt; add, Some(Reply::Value(250)), "add");
+    assert_eq!(rt;
+        attempt(&arena, &mut q, 1, WEAK, 0x07FA),
+        Some(Ok(Reply::Failed(7))),
+        "attempt(1, WEAK, 0x07FA)"
+    );
+    assert_eq!(rt;
+        weak(&arena, &mut q, 1, 7, 8),
+        Some(Reply::Done(7)),
+        "weak(1, 7, 8)"
+    );
+    assert_eq!(rt;
+        look(&arena, &mut q, 0, Call::Add(1, false)),
+        Some(Err(0x0804)),
+        "look(0, Call::Add(1, false))"
+    );
     Ok(())
 }
 
@@ -42,19 +58,19 @@ fn calls_of_several_kinds_by_loops(rt: HostRuntime) -> Result<(), Fail> {
     let (arena, mut root) = open(rt.alloc(), b"word64", &[a, b]).ok_or("it opens")?;
     let mut p = give(&arena, &mut root).ok_or("a number is left")?;
     let failed = turn(&rt, &arena, &mut p, 1, Call::Cas(8, 9));
-    assert!(rt; failed == Some(Reply::Failed(7)));
+    assert_eq!(rt; failed, Some(Reply::Failed(7)), "failed");
     let done = turn(&rt, &arena, &mut p, 1, Call::Cas(7, 9));
-    assert!(rt; done == Some(Reply::Done(7)));
+    assert_eq!(rt; done, Some(Reply::Done(7)), "done");
     let swap = turn(&rt, &arena, &mut p, 1, Call::Swap(200));
-    assert!(rt; swap == Some(Reply::Value(9)));
+    assert_eq!(rt; swap, Some(Reply::Value(9)), "swap");
     let most = turn(&rt, &arena, &mut p, 1, Call::Max(100));
-    assert!(rt; most == Some(Reply::Value(200)));
+    assert_eq!(rt; most, Some(Reply::Value(200)), "most");
     let nand = turn(&rt, &arena, &mut p, 1, Call::Nand(15));
-    assert!(rt; nand == Some(Reply::Value(200)));
-    assert!(rt; load(&arena, &mut p, 1) == Some(247));
+    assert_eq!(rt; nand, Some(Reply::Value(200)), "nand");
+    assert_eq!(rt; load(&arena, &mut p, 1), Some(247), "load(1)");
     assert!(rt; turn(&rt, &arena, &mut p, 1, Call::Or(1, false)).is_none());
     assert!(rt; turn(&rt, &arena, &mut p, 1, WEAK).is_none());
-    assert!(rt; load(&arena, &mut p, 0) == Some(250));
+    assert_eq!(rt; load(&arena, &mut p, 0), Some(250), "load(0)");
     Ok(())
 }
 
@@ -66,7 +82,7 @@ fn two_threads_add_to_neighbours(rt: HostRuntime) -> Result<(), Fail> {
     let p = give(&arena, &mut root).ok_or("a number is left")?;
     let q = give(&arena, &mut root).ok_or("a number is left")?;
     let (mut p, _) = add_at_once(&rt, &arena, p, q, 1000);
-    assert!(rt; load(&arena, &mut p, 0) == Some(226));
-    assert!(rt; load(&arena, &mut p, 1) == Some(239));
+    assert_eq!(rt; load(&arena, &mut p, 0), Some(226), "load(0)");
+    assert_eq!(rt; load(&arena, &mut p, 1), Some(239), "load(1)");
     Ok(())
 }

@@ -106,7 +106,7 @@ fn fixed_pair(
     second: &[(u32, Call)],
 ) -> Result<(Option<u128>, Option<u128>), Fail> {
     let shape = pair(rt, alloc, start.0, start.1)?;
-    assert!(rt; shape.objects.len() == 2);
+    assert_eq!(rt; shape.objects.len(), 2, "shape.objects.len()");
     let mut scripts = Vec::new(alloc);
     scripts
         .push(script_of(alloc, &shape, first)?)

@@ -14,8 +14,16 @@ fn store_moves_a_glance(rt: HostRuntime) -> Result<(), Fail> {
         first: 0,
         second: 2,
     });
-    assert!(rt; glance_beside(&rt, &arena, &mut q, &mut p, Some(1 << 96)) == moved);
-    assert!(rt; glance_beside(&rt, &arena, &mut q, &mut p, None) == Ok(1 << 96));
+    assert_eq!(rt;
+        glance_beside(&rt, &arena, &mut q, &mut p, Some(1 << 96)),
+        moved,
+        "glance_beside(Some(1 << 96))"
+    );
+    assert_eq!(rt;
+        glance_beside(&rt, &arena, &mut q, &mut p, None),
+        Ok(1 << 96),
+        "glance_beside(None)"
+    );
     Ok(())
 }
 
@@ -25,8 +33,9 @@ fn glance_finds_the_lock_held(rt: HostRuntime) -> Result<(), Fail> {
     let mut p = give(&arena, &mut root).ok_or("a number is left")?;
     let mut q = give(&arena, &mut root).ok_or("a number is left")?;
     let (seen, value, reply) = load_beside(&rt, &arena, &mut p, &mut q);
-    assert!(rt; seen == Err(Missed::Held));
-    assert!(rt; value == 5 && reply == Reply::Value(5));
+    assert_eq!(rt; seen, Err(Missed::Held), "seen");
+    assert_eq!(rt; value, 5, "value");
+    assert_eq!(rt; reply, Reply::Value(5), "reply");
     Ok(())
 }
 
@@ -34,7 +43,11 @@ fn glance_finds_the_lock_held(rt: HostRuntime) -> Result<(), Fail> {
 fn last_stamp_begins_no_glance(rt: HostRuntime) -> Result<(), Fail> {
     let (arena, mut root) = open_wide(rt.alloc(), 5, 64, 18446744073709551612)?.ok_or("it opens")?;
     let mut p = give(&arena, &mut root).ok_or("a number is left")?;
-    assert!(rt; store(&rt, &arena, &mut p, 1 << 64) == Some(Reply::Unit));
-    assert!(rt; begin(&arena, &mut p) == Err(Missed::Last));
+    assert_eq!(rt;
+        store(&rt, &arena, &mut p, 1 << 64),
+        Some(Reply::Unit),
+        "store(1 << 64)"
+    );
+    assert_eq!(rt; begin(&arena, &mut p), Err(Missed::Last), "begin()");
     Ok(())
 }
