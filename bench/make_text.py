@@ -1,7 +1,7 @@
 #!/usr/bin/env python3
 """The workloads of the bench: `make_text.py NAME` writes one to standard output.
 
-A name gives the same bytes every time.
+A name gives the same bytes every time. `many` has none: the programs draw its calls themselves.
 """
 import random
 import sys
@@ -13,6 +13,8 @@ WIDTHS = {"i8": 8, "u8": 8, "i16": 16, "u16": 16, "i32": 32, "u32": 32, "i64": 6
 ALL = ["load", "store", "swap", "compare_exchange", "compare_exchange_weak", "fetch_and", "fetch_or", "fetch_xor"]
 LOGIC = ["and", "fetch_nand", "or", "xor", "fetch_not", "not"]
 BITS = ["bit_set", "bit_clear", "bit_toggle"]
+NEW_LOGIC = ["and_fetch", "nand_fetch", "or_fetch", "xor_fetch"]
+NEW_NUMBERS = ["add_fetch", "sub_fetch"]
 NUMBERS = ["fetch_add", "add", "fetch_sub", "sub", "fetch_max", "fetch_min", "fetch_neg", "neg"]
 WORDS = {
     "int": ALL + LOGIC + NUMBERS + BITS,
@@ -61,8 +63,8 @@ def plain_call(source: random.Random, name: str) -> str:
     return f"{name} fetch_add {source.getrandbits(64)}" if source.random() < 0.5 else f"{name} load"
 
 
-def text_of(target: str, objects: list, threads: list) -> str:
-    lines = ["work 1", f"target {target}"] + objects
+def text_of(target: str, objects: list, threads: list, version: int = 1) -> str:
+    lines = [f"work {version}", f"target {target}"] + objects
     for calls in threads:
         lines += ["thread", *calls, "end"]
     return "\n".join(lines) + "\n"
@@ -160,12 +162,41 @@ def additions(target: str, declared: str, bits: int, seed: int) -> str:
     return text_of(target, [declared], threads)
 
 
+# words of the second version that write, one for each object of `full_blocks`
+BLOCK_WORDS = {
+    "int": NEW_NUMBERS + NEW_LOGIC + ["fetch_add", "fetch_xor", "swap", "fetch_neg"],
+    "bool": NEW_LOGIC + ["fetch_not"],
+    "ptr": ["fetch_byte_add", "fetch_xor", "swap", "bit_toggle"],
+}
+
+
+def full_blocks(threads: int, calls: int, seed: int) -> str:
+    """As many threads as a workload may have, each with one block of one line, on an object of its own; the objects are
+    of all kinds."""
+    source = random.Random(seed)
+    kinds = list(WIDTHS)
+    objects, scripts = [], []
+    for number in range(threads):
+        name, kind = f"o{number:02d}", kinds[number % len(kinds)]
+        objects.append(f"object {name} {kind} {value(source, kind)}")
+        words = BLOCK_WORDS[kind if kind in BLOCK_WORDS else "int"]
+        word = words[number // len(kinds) % len(words)]
+        if word in BITS:
+            operands = [str(source.randrange(256))]
+        else:
+            operands = [] if word in ("fetch_not", "fetch_neg") else [value(source, kind)]
+        scripts.append([f"repeat: {calls}", " ".join([name, word, *operands]), "end"])
+    return text_of("full64", objects, scripts, version=2)
+
+
 WORKLOADS = {
     "one_thread": lambda: one_thread(65_536, 1_024, 1, False),
     "mixed_calls": lambda: one_thread(65_536, 1_024, 2, True),
     "comments": comments,
     "wide_exchanges": lambda: wide_exchanges(60_000, 1_024, 3),
     "full": lambda: full(16, 62_500, 1_024, 4),
+    "full_blocks": lambda: full_blocks(64, 62_500, 7),
+    "many": lambda: "",
     "u128_additions": lambda: additions("full64", "object w u128 18446744073709551615", 48, 5),
     "u8_additions": lambda: additions("word64", "object c u8 250", 8, 6),
 }

@@ -1,7 +1,9 @@
-//! The peer of the bench: a plain Rust program of the workload language, with std alone and nothing proved.
+//! The peer of the bench: a plain Rust program of both versions of the workload language, with std alone and nothing
+//! proved.
 //!
 //! It reads all of standard input, makes the same checks, runs each script on a thread of its own and writes the same
-//! report. Objects are the processor's own atomics, whatever the target, so nothing waits for a lock; those of 128 bits
+//! report. With the words `many SEED THREADS CALLS` it draws the same workload in place of reading one, runs it without
+//! keeping replies, and writes the last values. Objects are the processor's own atomics, whatever the target, so nothing waits for a lock; those of 128 bits
 //! are served by `cmpxchg16b`, and loaded by 16-byte moves where the processor has AVX. Every access is sequentially
 //! consistent, whichever order the call asks for, as in the proved program. A fault ends it with status 1.
 
@@ -22,12 +24,34 @@ use std::sync::atomic::{
 };
 
 const MOST_BYTES: usize = 8_388_608;
-const MOST_OBJECTS: usize = 1_024;
 const MOST_THREADS: usize = 64;
-const MOST_CALLS: usize = 65_536;
-const MOST_IN_ALL: usize = 1_000_000;
+const MOST_LINES: usize = 65_536;
+const MOST_LINES_IN_ALL: usize = 1_000_000;
 /// Zeros after the text, so that 16 bytes can be read from any place in it, and so that every line has an end.
 const SPARE: usize = 32;
+
+#[derive(Clone, Copy, PartialEq, Eq, PartialOrd, Ord)]
+enum Version {
+    First,
+    Second,
+}
+
+impl Version {
+    fn most_objects(self) -> usize {
+        match self {
+            Version::First => 1_024,
+            Version::Second => 4_096,
+        }
+    }
+
+    /// The most calls of a thread, and of all threads.
+    fn most_calls(self) -> (usize, usize) {
+        match self {
+            Version::First => (MOST_LINES, MOST_LINES_IN_ALL),
+            Version::Second => (1_000_000, 4_000_000),
+        }
+    }
+}
 
 #[derive(Clone, Copy, Debug)]
 enum Cause {
@@ -267,7 +291,7 @@ const OTHERS: u8 = u8::MAX;
 
 macro_rules! operations {
     ($($name:ident $word:literal $classes:expr, $operands:ident, $family:ident;)*) => {
-        #[derive(Clone, Copy, PartialEq, Eq)]
+        #[derive(Clone, Copy, PartialEq, Eq, PartialOrd, Ord)]
         #[repr(u8)]
         enum Operation {
             $($name,)*
@@ -322,12 +346,27 @@ operations! {
     BitToggle "bit_toggle" INT | PTR, Position, FLIPS;
     FetchByteAdd "fetch_byte_add" PTR, One, SUMS;
     FetchByteSub "fetch_byte_sub" PTR, One, SUMS;
+    AddFetch "add_fetch" INT, One, SUMS;
+    SubFetch "sub_fetch" INT, One, SUMS;
+    AndFetch "and_fetch" INT | BOOL, One, CLEARS;
+    NandFetch "nand_fetch" INT | BOOL, One, OTHERS;
+    OrFetch "or_fetch" INT | BOOL, One, SETS;
+    XorFetch "xor_fetch" INT | BOOL, One, FLIPS;
+}
+
+impl Operation {
+    /// The version in which it came.
+    fn since(self) -> Version {
+        if self >= Operation::AddFetch { Version::Second } else { Version::First }
+    }
 }
 
 /// A number below 64 that differs from word to word; of at least two bytes.
 const fn place_of_word(word: &[u8]) -> usize {
     let count = word.len();
-    (count + 2 * word[0] as usize + 11 * word[count - 1] as usize + 3 * word[count - 2] as usize) % 64
+    let (first, second) = (word[0] as usize, word[1] as usize);
+    let (last, before) = (word[count - 1] as usize, word[count - 2] as usize);
+    (count + 8 * first + 5 * second + 19 * last + 2 * before) % 64
 }
 
 const NO_WORD: u8 = u8::MAX;
@@ -427,10 +466,44 @@ struct Object {
     start: u128,
 }
 
+/// Lines of a script that stand in a row and are made so many times over.
+struct Span {
+    times: u32,
+    end: usize,
+}
+
+/// The lines of a thread, each once, in spans.
+#[derive(Default)]
+struct Script {
+    lines: Vec<Line>,
+    spans: Vec<Span>,
+    calls: usize,
+}
+
+impl Script {
+    /// Ends a span after the lines so far.
+    fn close(&mut self, times: u32) {
+        let end = self.lines.len();
+        if self.spans.last().map_or(0, |span| span.end) < end {
+            self.spans.push(Span { times, end });
+        }
+    }
+
+    /// The lines of each call, in order.
+    #[inline]
+    fn calls(&self) -> impl Iterator<Item = &Line> {
+        let starts = std::iter::once(0).chain(self.spans.iter().map(|span| span.end));
+        starts.zip(&self.spans).flat_map(|(start, span)| {
+            let lines = &self.lines[start..span.end];
+            (0..span.times).flat_map(move |_| lines)
+        })
+    }
+}
+
 struct Work {
     target: String,
     objects: Vec<Object>,
-    threads: Vec<Vec<Line>>,
+    threads: Vec<Script>,
 }
 
 /// The first byte from `from` on that isn't one of `least` to 126. There is one, since zeros stand after the text.
@@ -529,10 +602,14 @@ enum Waiting {
 }
 
 struct Reader {
+    version: Version,
     waiting: Waiting,
     work: Work,
     names: HashMap<u128, u32, BuildHasherDefault<Fold>>,
-    /// The calls of all threads.
+    /// How often the open block is made.
+    block: Option<u32>,
+    /// The call lines and the calls of all threads.
+    lines: usize,
     calls: usize,
 }
 
@@ -583,9 +660,11 @@ impl Reader {
         if first != b"work" {
             return words.fail(Cause::Version);
         }
-        if words.need()? != b"1" {
-            return words.fail(Cause::Version);
-        }
+        self.version = match words.need()? {
+            b"1" => Version::First,
+            b"2" => Version::Second,
+            _ => return words.fail(Cause::Version),
+        };
         self.waiting = Waiting::Target;
         words.finish()
     }
@@ -617,7 +696,10 @@ impl Reader {
         match given.len() {
             0..5 => return Err((given.len() as u32 + 2, Cause::Missing)),
             5 => {}
-            _ => return Err((7, Cause::Extra)),
+            _ if self.version == Version::First || given[5] != b"big" => return Err((7, Cause::Extra)),
+            _ if given[1] == b"apart" => return Err((7, Cause::BadTarget)),
+            6 => {}
+            _ => return Err((8, Cause::Extra)),
         }
         let text = String::from_utf8(given.join(&b' ')).unwrap();
         let known = TARGETS.iter().find(|(_, description)| *description == text);
@@ -626,7 +708,7 @@ impl Reader {
     }
 
     fn object(&mut self, words: &mut Words) -> Result<(), Fault> {
-        if self.work.objects.len() == MOST_OBJECTS {
+        if self.work.objects.len() == self.version.most_objects() {
             return words.fail(Cause::Limit);
         }
         let name = words.need()?;
@@ -651,25 +733,60 @@ impl Reader {
         if self.work.threads.len() == MOST_THREADS {
             return words.fail(Cause::Limit);
         }
-        self.work.threads.push(Vec::new());
+        self.work.threads.push(Script::default());
         self.waiting = Waiting::Call;
+        words.finish()
+    }
+
+    /// The end of a block or a thread.
+    fn close(&mut self, words: &mut Words) -> Result<(), Fault> {
+        let script = self.work.threads.last_mut().unwrap();
+        match self.block.take() {
+            Some(times) => script.close(times),
+            None => {
+                script.close(1);
+                self.waiting = Waiting::Item;
+            }
+        }
+        words.finish()
+    }
+
+    /// A line whose first word is `repeat:`, in a thread of the second version.
+    fn open(&mut self, words: &mut Words) -> Result<(), Fault> {
+        if self.block.is_some() {
+            return words.fail(Cause::UnknownWord);
+        }
+        let times = read_integer(words.need()?, 32, false).or_else(|cause| words.fail(cause))? as u32;
+        if times == 0 {
+            return words.fail(Cause::OutOfRange);
+        }
+        self.work.threads.last_mut().unwrap().close(1);
+        self.block = Some(times);
         words.finish()
     }
 
     #[inline]
     fn call(&mut self, first: &[u8], words: &mut Words) -> Result<(), Fault> {
         if first == b"end" {
-            self.waiting = Waiting::Item;
-            return words.finish();
+            return self.close(words);
         }
         let Some(&object) = words.key(first).and_then(|key| self.names.get(&key)) else {
+            if self.version == Version::Second && first == b"repeat:" {
+                return self.open(words);
+            }
             return words.fail(Cause::UnknownName);
         };
         let script = self.work.threads.last_mut().unwrap();
-        if script.len() == MOST_CALLS || self.calls == MOST_IN_ALL {
+        let times = self.block.unwrap_or(1) as usize;
+        let (most, most_in_all) = self.version.most_calls();
+        if script.lines.len() == MOST_LINES
+            || self.lines == MOST_LINES_IN_ALL
+            || script.calls + times > most
+            || self.calls + times > most_in_all
+        {
             return words.fail(Cause::Limit);
         }
-        let Some(word) = Word::of(words.need()?) else {
+        let Some(word) = Word::of(words.need()?).filter(|word| word.operation.since() <= self.version) else {
             return words.fail(Cause::UnknownWord);
         };
         let kind = self.work.objects[object as usize].kind;
@@ -678,8 +795,10 @@ impl Reader {
         }
         let operands = read_operands(kind, word.operands, words)?;
         let (success, failure) = read_orders(word.operation, words)?;
-        script.push(Line { object, operation: word.operation, success, failure, operands });
-        self.calls += 1;
+        script.lines.push(Line { object, operation: word.operation, success, failure, operands });
+        script.calls += times;
+        self.lines += 1;
+        self.calls += times;
         Ok(())
     }
 
@@ -741,7 +860,15 @@ fn read_work(text: &[u8], length: usize) -> Result<Work, (u32, Fault)> {
         return Err((0, (0, Cause::TooLong)));
     }
     let work = Work { target: String::new(), objects: Vec::new(), threads: Vec::new() };
-    let mut reader = Reader { waiting: Waiting::Version, work, names: HashMap::default(), calls: 0 };
+    let mut reader = Reader {
+        version: Version::First,
+        waiting: Waiting::Version,
+        work,
+        names: HashMap::default(),
+        block: None,
+        lines: 0,
+        calls: 0,
+    };
     let (mut at, mut line) = (0, 0);
     while at < length {
         line += 1;
@@ -969,6 +1096,12 @@ macro_rules! integer_call {
             Operation::BitSet => was_set(cell.fetch_or(bit, SeqCst)),
             Operation::BitClear => was_set(cell.fetch_and(!bit, SeqCst)),
             Operation::BitToggle => was_set(cell.fetch_xor(bit, SeqCst)),
+            Operation::AddFetch => value(cell.fetch_add(a, SeqCst).wrapping_add(a)),
+            Operation::SubFetch => value(cell.fetch_sub(a, SeqCst).wrapping_sub(a)),
+            Operation::AndFetch => value(cell.fetch_and(a, SeqCst) & a),
+            Operation::NandFetch => value(!(cell.fetch_nand(a, SeqCst) & a)),
+            Operation::OrFetch => value(cell.fetch_or(a, SeqCst) | a),
+            Operation::XorFetch => value(cell.fetch_xor(a, SeqCst) ^ a),
         }
     }};
 }
@@ -1000,6 +1133,10 @@ fn bool_call(cell: &AtomicBool, line: &Line) -> Reply {
         Operation::Xor => quiet(cell.fetch_xor(a, SeqCst)),
         Operation::FetchNot => value(cell.fetch_xor(true, SeqCst)),
         Operation::Not => quiet(cell.fetch_xor(true, SeqCst)),
+        Operation::AndFetch => value(cell.fetch_and(a, SeqCst) & a),
+        Operation::NandFetch => value(!(cell.fetch_nand(a, SeqCst) & a)),
+        Operation::OrFetch => value(cell.fetch_or(a, SeqCst) | a),
+        Operation::XorFetch => value(cell.fetch_xor(a, SeqCst) ^ a),
         _ => unreachable!("the reader lets no other call of a bool through"),
     }
 }
@@ -1055,21 +1192,122 @@ cells! {
 /// are loads and members of one family.
 fn fixed(work: &Work) -> Vec<bool> {
     let mut families = vec![LOADS; work.objects.len()];
-    for line in work.threads.iter().flatten() {
+    for line in work.threads.iter().flat_map(|script| &script.lines) {
         families[line.object as usize] |= WORDS[line.operation as usize].family;
     }
     families.iter().map(|families| families.count_ones() <= 1).collect()
 }
 
+/// Makes the calls of a script, in order, and hands on each reply.
+#[inline]
+fn make(script: &Script, cells: &[Cell], mut told: impl FnMut(Reply)) {
+    let mut start = 0;
+    for span in &script.spans {
+        let lines = &script.lines[start..span.end];
+        for _ in 0..span.times {
+            for line in lines {
+                told(cells[line.object as usize].call(line));
+            }
+        }
+        start = span.end;
+    }
+}
+
 /// Runs each script on a thread of its own.
 fn run(work: &Work, cells: &[Cell]) -> Vec<Vec<Reply>> {
-    let mut replies: Vec<_> = work.threads.iter().map(|script| Vec::with_capacity(script.len())).collect();
+    let mut replies: Vec<_> = work.threads.iter().map(|script| Vec::with_capacity(script.calls)).collect();
     std::thread::scope(|scope| {
         for (script, replies) in work.threads.iter().zip(&mut replies) {
-            scope.spawn(move || replies.extend(script.iter().map(|line| cells[line.object as usize].call(line))));
+            scope.spawn(move || make(script, cells, |reply| replies.push(reply)));
         }
     });
     replies
+}
+
+/// Runs each script on a thread of its own, without its replies.
+fn run_untold(work: &Work, cells: &[Cell]) {
+    std::thread::scope(|scope| {
+        for script in &work.threads {
+            scope.spawn(move || make(script, cells, |_| ()));
+        }
+    });
+}
+
+// ---------------------------------------------------------------------------------------------------------------------
+// Generated workloads
+
+/// `Lcg128Xsl64` of the crate `rand_pcg`: 128 bits of state, and words of 64.
+struct Drawer {
+    state: u128,
+    increment: u128,
+}
+
+impl Drawer {
+    /// `seed_from_u64`: eight words of a PCG32 are the seed, its first half the state, its second half the increment.
+    fn of(seed: u64) -> Drawer {
+        let mut small = seed;
+        let mut half = || {
+            (0..4).fold(0u128, |half, place| {
+                small = small.wrapping_mul(6_364_136_223_846_793_005).wrapping_add(11_634_580_027_462_260_723);
+                let word = ((small >> 18 ^ small) >> 27) as u32;
+                half | u128::from(word.rotate_right((small >> 59) as u32)) << (32 * place)
+            })
+        };
+        let (state, increment) = (half(), half() | 1);
+        let mut drawer = Drawer { state: state.wrapping_add(increment), increment };
+        drawer.step();
+        drawer
+    }
+
+    #[inline]
+    fn step(&mut self) {
+        self.state = self.state.wrapping_mul(0x2360_ed05_1fc6_5da4_4385_df64_9fcc_f645).wrapping_add(self.increment);
+    }
+
+    #[inline]
+    fn next(&mut self) -> u64 {
+        self.step();
+        ((self.state >> 64) as u64 ^ self.state as u64).rotate_right((self.state >> 122) as u32)
+    }
+}
+
+const DRAWN: [(&str, Kind, u128, Operation); 8] = [
+    ("n8", Kind::U8, 0, Operation::FetchAdd),
+    ("n16", Kind::I16, 0, Operation::FetchSub),
+    ("m32", Kind::U32, 0, Operation::FetchMax),
+    ("s32", Kind::I32, 0, Operation::FetchMin),
+    ("x64", Kind::U64, 0, Operation::FetchXor),
+    ("o8", Kind::U8, 0, Operation::FetchOr),
+    ("a16", Kind::U16, 65_535, Operation::FetchAnd),
+    ("w128", Kind::U128, 0, Operation::FetchAdd),
+];
+
+fn draw_call(drawer: &mut Drawer) -> Line {
+    let word = drawer.next();
+    let object = (word % 8) as u32;
+    let (_, kind, _, operation) = DRAWN[object as usize];
+    let operand = u128::from(word / 8) & (u128::MAX >> (128 - kind.width()));
+    Line { object, operation, success: Asked::SeqCst, failure: Asked::SeqCst, operands: [operand, 0] }
+}
+
+fn draw_work(seed: u64, threads: u32, calls: u32) -> Work {
+    let mut drawer = Drawer::of(seed);
+    let script = |_| {
+        let mut script = Script::default();
+        script.lines.extend((0..calls).map(|_| draw_call(&mut drawer)));
+        script.close(1);
+        script
+    };
+    let object = |(name, kind, start, _): &(&str, Kind, u128, Operation)| Object {
+        name: Padded::of(name.as_bytes()),
+        kind: *kind,
+        start: *start,
+    };
+    Work {
+        target: "word32".to_string(),
+        objects: DRAWN.iter().map(object).collect(),
+        threads: (0..threads).map(script).collect(),
+    }
 }
 
 // ---------------------------------------------------------------------------------------------------------------------
@@ -1293,20 +1531,36 @@ impl Out {
             self.all(b"thread ");
             self.number(number);
             self.all(b"\n");
-            for (line, reply) in script.iter().zip(replies) {
+            for (line, reply) in script.calls().zip(replies) {
                 self.line(&work.objects, line, *reply)?;
             }
         }
         self.all(b"last\n");
         for ((object, value), fixed) in work.objects.iter().zip(last).zip(fixed) {
-            self.room()?;
-            self.fixed(&object.name.bytes, object.name.length);
-            self.all(b" ");
-            self.value(object.kind, *value);
-            if *fixed {
-                self.all(b" fixed");
-            }
-            self.all(b"\n");
+            self.last(object, *value, *fixed)?;
+        }
+        self.flush()
+    }
+
+    fn last(&mut self, object: &Object, value: u128, fixed: bool) -> io::Result<()> {
+        self.room()?;
+        self.fixed(&object.name.bytes, object.name.length);
+        self.all(b" ");
+        self.value(object.kind, value);
+        if fixed {
+            self.all(b" fixed");
+        }
+        self.all(b"\n");
+        Ok(())
+    }
+
+    fn drawn(&mut self, words: &[String], work: &Work, last: &[u128]) -> io::Result<()> {
+        for byte in words.join(" ").bytes() {
+            self.all(&[byte]);
+        }
+        self.all(b"\n");
+        for (object, value) in work.objects.iter().zip(last) {
+            self.last(object, *value, true)?;
         }
         self.flush()
     }
@@ -1329,8 +1583,31 @@ fn read_all() -> io::Result<(Vec<u8>, usize)> {
     Ok((text, length))
 }
 
+/// The command `many`, with its words.
+fn many(words: &[String]) -> io::Result<ExitCode> {
+    let number = |place: usize, bits: u32| words.get(place).and_then(|word| read_integer(word.as_bytes(), bits, false).ok());
+    let (Some(seed), Some(threads), Some(calls), 4) = (number(1, 64), number(2, 32), number(3, 32), words.len()) else {
+        return Ok(ExitCode::from(2));
+    };
+    let (threads, calls) = (threads as usize, calls as usize);
+    if !(1..=MOST_THREADS).contains(&threads) || calls > MOST_LINES || threads * calls > MOST_LINES_IN_ALL {
+        return Ok(ExitCode::from(2));
+    }
+    let work = draw_work(seed as u64, threads as u32, calls as u32);
+    let cells: Vec<Cell> = work.objects.iter().map(Cell::of).collect();
+    run_untold(&work, &cells);
+    let last: Vec<u128> = cells.iter().map(Cell::load).collect();
+    Out::new().drawn(words, &work, &last)?;
+    Ok(ExitCode::SUCCESS)
+}
+
 fn main() -> io::Result<ExitCode> {
     assert!(std::is_x86_feature_detected!("cmpxchg16b"), "the peer needs cmpxchg16b");
+    let words: Vec<String> = std::env::args().skip(1).collect();
+    if words.first().is_some_and(|word| word == "many") {
+        return many(&words);
+    }
+    assert!(words.is_empty() || words == ["run"], "the peer serves `run` and `many`");
     let (text, length) = read_all()?;
     let work = match read_work(&text, length) {
         Ok(work) => work,

@@ -15,7 +15,7 @@ from pathlib import Path
 import measure
 
 PROGRAM = measure.TOP / "crates/portable/out/portable"
-HOW = "cd crates/portable && rt run -- run < ../../examples/first.work"
+HOW = "cd crates/portable && rt run -- run < ../pages/data/examples/first.work"
 COLUMNS = "date,commit,processor,text,bytes,ms,cpu_ms,mb_per_s,peak_mb"
 HEAD = "work 1\ntarget full64\n"
 MOST = 8_388_608

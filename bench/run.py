@@ -16,7 +16,7 @@ import make_text
 import measure
 
 PROGRAM = measure.TOP / "crates/portable/out/portable"
-HOW = "cd crates/portable && rt run -- run < ../../examples/first.work"
+HOW = "cd crates/portable && rt run -- run < ../pages/data/examples/first.work"
 
 
 def whole(report: bytes) -> bytes:
@@ -34,6 +34,8 @@ def calls(report: bytes) -> bytes:
     return re.sub(found, rb"\1\2", report)
 
 
+# the words of both programs, where they aren't `run`
+WORDS = {"many": ["many", "7", "16", "62500"]}
 # what of a report is a function of the workload
 SAME = {"full": calls, "u128_additions": last, "u8_additions": last}
 
@@ -41,10 +43,10 @@ SAME = {"full": calls, "u128_additions": last, "u8_additions": last}
 def side_by_side(launcher: Path, peer: Path, program: Path, name: str, text: Path) -> tuple:
     """The runs of both programs, in turns. Whatever must be equal is compared at each run; the calls, which take long to
     take out of a report, at the first alone."""
-    same = SAME.get(name, whole)
+    same, words = SAME.get(name, whole), WORDS.get(name, ["run"])
     ours, theirs = [], []
     for number in range(measure.RUNS):
-        one, other = measure.done(launcher, [program, "run"], text), measure.done(launcher, [peer], text)
+        one, other = (measure.done(launcher, [each, *words], text) for each in (program, peer))
         if (number == 0 or same is not calls) and same(one.written) != same(other.written):
             sys.exit(f"{name}: the reports differ")
         ours.append(one._replace(written=b""))

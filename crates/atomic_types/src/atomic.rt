@@ -4,9 +4,11 @@ ghost use Rattle.std.specs.Prelude.{◌≡◌, MatchOption};
 ghost use Rattle.op_table.specs.declared.call.Call.TheVariants.{Load, Store, Swap, Cas, CasWeak};
 ghost use Rattle.op_table.specs.declared.call.Reply.TheVariants as reply;
 ghost use Rattle.op_table.specs.Call.{CallFits};
+ghost use Rattle.place_core.specs.Cells.{value_of};
+ghost use Rattle.place_core.specs.Shapes.{cells_of_shape};
 ghost use Rattle.seat_views.specs.declared.view.Flight.TheVariants.{Idle};
 ghost use Rattle.seat_views.specs.States.{IsOf};
-ghost use Rattle.atomic_types.specs.Atomics.{Before, Bit, Exchanged, HasAtomic, HasForm, Nothing, exchanged, form_of};
+ghost use Rattle.atomic_types.specs.Atomics.{After, Before, Bit, Exchanged, HasAtomic, HasForm, Nothing, exchanged, form_of};
 ghost use Rattle.atomic_types.specs.Serving.{Serves};
 
 use crate::served::Served;
@@ -99,6 +101,23 @@ impl<V: Scalar> Atomic<V> {
         requires form { form_of call.now ≡ Before }
         requires rest { pass.old.flight ≡ Idle }
         ensures { Serves arena.now.shape self.now call.now pass.old (reply.Value (V.bits result)) pass.new }
+    {
+        match self.reply(rt, arena, pass, call) {
+            Reply::Value(bits) => V::from_bits(bits),
+            _ => unreachable!(),
+        }
+    }
+
+    /// Makes a call that answers the value after it, which the object has where the call's entry is the last.
+    #[inline(always)]
+    pub fn after<R: Wait>(&self, rt: &R, arena: &Arena, pass: &mut Pass, call: &Call) -> V
+        requires arena { IsOf arena.now pass.old }
+        requires atomic { HasAtomic arena.now.shape V.KIND self.now }
+        requires fits { CallFits V.KIND call.now }
+        requires form { form_of call.now ≡ After }
+        requires rest { pass.old.flight ≡ Idle }
+        ensures serves { Serves arena.now.shape self.now call.now pass.old (reply.Value (V.bits result)) pass.new }
+        ensures left { value_of (cells_of_shape arena.now.shape) pass.new.seen self.now ≡ V.bits result }
     {
         match self.reply(rt, arena, pass, call) {
             Reply::Value(bits) => V::from_bits(bits),

@@ -1,8 +1,10 @@
 //! The calls that integers have besides.
 
 ghost use Rattle.std.specs.Prelude.{◌≡◌, true, false};
-ghost use Rattle.op_table.specs.declared.call.Call.TheVariants.{Add, BitClear, BitSet, BitToggle, Max, Min, Neg, Sub};
+ghost use Rattle.op_table.specs.declared.call.Call.TheVariants.{Add, AddFetch, BitClear, BitSet, BitToggle, Max, Min, Neg, Sub, SubFetch};
 ghost use Rattle.op_table.specs.declared.call.Reply.TheVariants as reply;
+ghost use Rattle.place_core.specs.Cells.{value_of};
+ghost use Rattle.place_core.specs.Shapes.{cells_of_shape};
 ghost use Rattle.seat_views.specs.declared.view.Flight.TheVariants.{Idle};
 ghost use Rattle.seat_views.specs.States.{IsOf};
 ghost use Rattle.atomic_types.specs.Atomics.{HasAtomic};
@@ -53,6 +55,47 @@ impl<V: IntScalar> Atomic<V> {
         ensures { Serves arena.now.shape self.now (Sub (V.bits v) false) pass.old (reply.Value (V.bits result)) pass.new }
     {
         self.before(rt, arena, pass, &Call::Sub(v.to_bits(), false))
+    }
+
+    /// Adds `v`, and answers the new value. It wraps, for signed types too. Any order, served as `SeqCst`. On a lane:
+    /// one step where the lane ends with its word and the target adds words, else a loop. GCC's `__atomic_add_fetch`.
+    #[inline(always)]
+    pub fn add_fetch<R: Wait>(
+        &self,
+        rt: &R,
+        arena: &Arena,
+        pass: &mut Pass,
+        v: V,
+        _order: Order,
+    ) -> V
+        requires arena { IsOf arena.now pass.old }
+        requires atomic { HasAtomic arena.now.shape V.KIND self.now }
+        requires rest { pass.old.flight ≡ Idle }
+        ensures serves { Serves arena.now.shape self.now (AddFetch (V.bits v)) pass.old (reply.Value (V.bits result)) pass.new }
+        ensures left { value_of (cells_of_shape arena.now.shape) pass.new.seen self.now ≡ V.bits result }
+    {
+        self.after(rt, arena, pass, &Call::AddFetch(v.to_bits()))
+    }
+
+    /// Subtracts `v`, and answers the new value. It wraps, for signed types too. Any order, served as `SeqCst`. On a
+    /// lane: one step where the lane ends with its word and the target adds words, else a loop. GCC's
+    /// `__atomic_sub_fetch`.
+    #[inline(always)]
+    pub fn sub_fetch<R: Wait>(
+        &self,
+        rt: &R,
+        arena: &Arena,
+        pass: &mut Pass,
+        v: V,
+        _order: Order,
+    ) -> V
+        requires arena { IsOf arena.now pass.old }
+        requires atomic { HasAtomic arena.now.shape V.KIND self.now }
+        requires rest { pass.old.flight ≡ Idle }
+        ensures serves { Serves arena.now.shape self.now (SubFetch (V.bits v)) pass.old (reply.Value (V.bits result)) pass.new }
+        ensures left { value_of (cells_of_shape arena.now.shape) pass.new.seen self.now ≡ V.bits result }
+    {
+        self.after(rt, arena, pass, &Call::SubFetch(v.to_bits()))
     }
 
     /// Stores the greater of the value and `v`, in the type's order, and answers the value before. Any order, served as

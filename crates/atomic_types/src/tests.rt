@@ -156,3 +156,43 @@ fn parts_carry(rt: HostRuntime) -> Result<(), Fail> {
     );
     Ok(())
 }
+
+#[test]
+fn new_values_are_answered(rt: HostRuntime) -> Result<(), Fail> {
+    let a = object(Width::W8, 250).ok_or("an object")?;
+    let b = object(Width::W8, 7).ok_or("an object")?;
+    let wide = object(Width::W128, u128::MAX).ok_or("an object")?;
+    let (arena, mut root) = open(rt.alloc(), b"word32", &[a, b, wide]).ok_or("it opens")?;
+    let mut p = give(&arena, &mut root).ok_or("a number is left")?;
+    assert_eq!(rt;
+        make(&rt, &arena, &mut p, 0, Call::AddFetch(10)),
+        Some(Reply::Value(4)),
+        "make(0, Call::AddFetch(10))"
+    );
+    assert_eq!(rt;
+        make(&rt, &arena, &mut p, 1, Call::SubFetch(8)),
+        Some(Reply::Value(255)),
+        "make(1, Call::SubFetch(8))"
+    );
+    assert_eq!(rt;
+        make(&rt, &arena, &mut p, 0, Call::Load),
+        Some(Reply::Value(4)),
+        "make(0, Call::Load)"
+    );
+    assert_eq!(rt;
+        make(&rt, &arena, &mut p, 1, Call::NandFetch(10)),
+        Some(Reply::Value(245)),
+        "make(1, Call::NandFetch(10))"
+    );
+    assert_eq!(rt;
+        make(&rt, &arena, &mut p, 0, Call::XorFetch(6)),
+        Some(Reply::Value(2)),
+        "make(0, Call::XorFetch(6))"
+    );
+    assert_eq!(rt;
+        make(&rt, &arena, &mut p, 2, Call::AddFetch(1)),
+        Some(Reply::Value(0)),
+        "make(2, Call::AddFetch(1))"
+    );
+    Ok(())
+}

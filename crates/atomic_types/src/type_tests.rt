@@ -128,6 +128,29 @@ fn loud_negations<V: LogicScalar, R: Abort + Wait>(
     assert_eq!(rt; not.to_bits(), ones.to_bits());
 }
 
+/// The logic calls that answer the new value, from no bit set to none.
+fn new_logic<V: LogicScalar, R: Abort + Wait>(
+    rt: &R,
+    arena: &Arena,
+    p: &mut Pass,
+    it: Atomic<V>,
+    none: V,
+    ones: V,
+)
+    requires ready { IsReady arena.now p.old }
+    requires atomic { HasAtomic arena.now.shape V.KIND it }
+    ensures { IsReady arena.now p.new }
+{
+    let or = it.or_fetch(rt, arena, p, ones, ORDER);
+    assert_eq!(rt; or.to_bits(), ones.to_bits());
+    let and = it.and_fetch(rt, arena, p, ones, ORDER);
+    assert_eq!(rt; and.to_bits(), ones.to_bits());
+    let nand = it.nand_fetch(rt, arena, p, none, ORDER);
+    assert_eq!(rt; nand.to_bits(), ones.to_bits());
+    let xor = it.xor_fetch(rt, arena, p, ones, ORDER);
+    assert_eq!(rt; xor.to_bits(), none.to_bits());
+}
+
 /// The logic calls that answer nothing, from no bit set to all; a swap at the end tells what they left.
 fn quiet_logic<V: LogicScalar, R: Abort + Wait>(
     rt: &R,
@@ -177,6 +200,7 @@ fn logic_calls<V: LogicScalar, R: Abort + Wait>(
     let it = Atomic::<V>::of(&arena, 0)?;
     loud_logic(rt, &arena, &mut pass, it, none, ones);
     loud_negations(rt, &arena, &mut pass, it, none, ones);
+    new_logic(rt, &arena, &mut pass, it, none, ones);
     quiet_logic(rt, &arena, &mut pass, it, none, ones);
     quiet_or(rt, &arena, &mut pass, it, none, ones);
     Some(())
@@ -200,6 +224,26 @@ fn loud_sums<V: IntScalar, R: Abort + Wait>(
     assert_eq!(rt; added.to_bits(), greatest.to_bits());
     let taken = it.fetch_sub(rt, arena, p, one, ORDER);
     assert_eq!(rt; taken.to_bits(), least.to_bits());
+}
+
+/// Sums that answer the new value, from the greatest value to it.
+fn new_sums<V: IntScalar, R: Abort + Wait>(
+    rt: &R,
+    arena: &Arena,
+    p: &mut Pass,
+    it: Atomic<V>,
+    least: V,
+    greatest: V,
+    one: V,
+)
+    requires ready { IsReady arena.now p.old }
+    requires atomic { HasAtomic arena.now.shape V.KIND it }
+    ensures { IsReady arena.now p.new }
+{
+    let added = it.add_fetch(rt, arena, p, one, ORDER);
+    assert_eq!(rt; added.to_bits(), least.to_bits());
+    let taken = it.sub_fetch(rt, arena, p, one, ORDER);
+    assert_eq!(rt; taken.to_bits(), greatest.to_bits());
 }
 
 /// The least of a value and the greatest of one, from the greatest value to it.
@@ -268,6 +312,7 @@ fn integer_calls<V: IntScalar, R: Abort + Wait>(
     let (arena, mut pass) = bench_of(alloc, greatest)?;
     let it = Atomic::<V>::of(&arena, 0)?;
     loud_sums(rt, &arena, &mut pass, it, least, greatest, one);
+    new_sums(rt, &arena, &mut pass, it, least, greatest, one);
     loud_bounds(rt, &arena, &mut pass, it, least, greatest);
     quiet_sums(rt, &arena, &mut pass, it, least, one);
     bits(rt, &arena, &mut pass, it);

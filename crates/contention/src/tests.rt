@@ -227,3 +227,42 @@ fn stopped_caller_holds_nobody_off(rt: HostRuntime) -> Result<(), Fail> {
     );
     Ok(())
 }
+
+/// Each of two threads sets its flag before its first call, and waits for the other's.
+#[derive(Drop)]
+struct Meets {
+    flags: [AtomicBool; 2],
+    seen: [AtomicBool; 2],
+}
+
+impl Gate for Meets {
+    fn before(&self, thread: u32, _call: u32) {
+        let (mine, other) = if thread == 1 { (0, 1) } else { (1, 0) };
+        self.flags[mine].store(true, Ordering::SeqCst);
+        self.seen[mine].store(sees(&self.flags[other]), Ordering::SeqCst);
+    }
+
+    fn after(&self, _thread: u32, _call: u32) {}
+}
+
+/// The threads of a generated run have started before either is done: on one thread no order of theirs passes.
+#[test]
+fn generated_threads_run_at_once(rt: HostRuntime) -> Result<(), Fail> {
+    let alloc = rt.alloc();
+    let gate = Meets {
+        flags: [AtomicBool::new(false), AtomicBool::new(false)],
+        seen: [AtomicBool::new(false), AtomicBool::new(false)],
+    };
+    let mut words = Vec::new(alloc);
+    for word in ["many", "7", "2", "1"] {
+        words.push(String::from_str(alloc, word)?)?;
+    }
+    let mut source = SureSource::of(b"");
+    let mut sink = MemSink::of(alloc, 4096, 4096, &[])?;
+    let outcome = portable_call(&rt, alloc, &words, &mut source, &mut sink, &gate);
+    assert_eq!(rt; outcome.status, Status::Done);
+    for seen in &gate.seen {
+        assert!(rt; seen.load(Ordering::SeqCst), "each flag was seen");
+    }
+    Ok(())
+}

@@ -13,7 +13,7 @@ use Rattle.place_core.specs.Cells.{Cell}
 use Rattle.place_core.specs.Shapes.{place_in, parts_for, place_of}
 use Rattle.place_core.proofs.ShapeFacts.{place_of-at, kind_of-at, start_of-at}
 use Rattle.layout_plan.specs.Layout.{word_bytes, alignment_of, next_address, place_after, addresses_from, address_of, has_lane, shift_at, place_at, laid_at, objects_from, shape_of}
-use Rattle.place_core.specs.DeclaredObjects.{cell_of, cells_of}
+use Rattle.place_core.specs.DeclaredObjects.{cell_of}
 use Rattle.layout_plan.specs.Laws.{LaidIsDeclared, LaidHasCells, LaneIsNarrow, LockIsAddress, AddressIsAligned, AddressesRise}
 use Rattle.layout_plan.proofs.Seating.{has_lane-narrow, has_lane-wide, next_at}
 

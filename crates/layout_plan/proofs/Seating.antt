@@ -47,11 +47,24 @@ module _ (t : Target) (ok : IsTarget t) where
   cuts : Divides (word_bytes t)
   cuts = divides t.word_bits ok.bits
 
+  -- a shape's words at most
+  pub words_within : (e : ℕ) → e ≤ 16777216 * word_bytes t → words_for t e ≤ 16777216
+  words_within e le = cuts.few e le
+
   pub few_words : (e : ℕ) → e ≤ 4194304 → words_for t e ≤ 16777216
-  few_words e le = cuts.few e le
+  few_words e le = let some = cuts.some.0 in words_within e (omega (arith, le, some))
 
   seat : (k : Kind) (a : ℕ) → a % alignment_of t k ≡ 0 → IsSeated t.packed k.width t.word_bits a
   seat k a aligned = seated t.word_bits ok.bits t.packed k.width a aligned
+
+  pub next_aligned : (after : ℕ) (k : Kind) → next_address t after k % alignment_of t k ≡ 0
+  next_aligned after k = (next_at after k).aligned
+
+  -- where objects share words, the bytes of a lane are in its word
+  pub fits_word : (k : Kind) (a : ℕ) → t.packed ≡ true → has_lane t k ≡ true → a % alignment_of t k ≡ 0 → 8 * (a % word_bytes t) + 8 * bytes_of k ≤ 64
+  fits_word k a packed lane aligned =
+      let fits = (seat k a aligned).fits packed (has_lane-narrow t k lane).1 in let most = cuts.some.1 in
+      omega (arith, fits, most)
 
   -- an object with parts begins a word
   begins : (k : Kind) (a : ℕ) → has_lane t k ≡ false → a % alignment_of t k ≡ 0 → a % word_bytes t ≡ 0
@@ -88,14 +101,23 @@ module _ (t : Target) (ok : IsTarget t) where
       (λ (is : parts_for (bits_of k.width) t.word_bits * word_bytes t ≡ bytes_of k). cuts.whole_in_words a e (bytes_of k) (parts_for (bits_of k.width) t.word_bits) (begins k a none at) is le)
       (one_word k none)
 
-  -- a lane ends before a lane behind it in its word
-  lane_end : (k j : Kind) (a b : ℕ) → has_lane t k ≡ true → has_lane t j ≡ true → b % alignment_of t j ≡ 0 → a + bytes_of k ≤ b → a / word_bytes t ≡ b / word_bytes t → shift_at t k a + bits_of k.width ≤ shift_at t j b
-  lane_end k j a b lane also bt le same = go t.packed refl
+  -- the lowest bit of a lane, by whether objects are packed and whether `big` holds
+  abbrev shift_by : Bool → Bool → Kind → ℕ → ℕ
+  shift_by p q k a = if p then (if q then 64 - 8 * (a % word_bytes t) - 8 * bytes_of k else 64 - t.word_bits + 8 * (a % word_bytes t)) else 64 - bits_of k.width
+
+  -- of two lanes of a word, the one behind lies above the other, or below it where `big` holds
+  lanes_apart : (k j : Kind) (a b : ℕ) → has_lane t k ≡ true → has_lane t j ≡ true → b % alignment_of t j ≡ 0 → a + bytes_of k ≤ b → a / word_bytes t ≡ b / word_bytes t
+      → (shift_at t k a + bits_of k.width ≤ shift_at t j b) ⊎ (shift_at t j b + bits_of j.width ≤ shift_at t k a)
+  lanes_apart k j a b lane also bt le same = go t.packed t.big refl
     where
-      go : (p : Bool) → t.packed ≡ p
-          → (if p then 64 - t.word_bits + 8 * (a % word_bytes t) else 64 - bits_of k.width) + bits_of k.width ≤ (if p then 64 - t.word_bits + 8 * (b % word_bytes t) else 64 - bits_of j.width)
-      go true is = let low = cuts.same_word a b (bytes_of k) le same in let fits = (some_bytes k.width).2 in omega (arith, low, fits)
-      go false is =
+      low : a % word_bytes t + bytes_of k ≤ b % word_bytes t
+      low = cuts.same_word a b (bytes_of k) le same
+
+      go : (p q : Bool) → t.packed ≡ p
+          → (shift_by p q k a + bits_of k.width ≤ shift_by p q j b) ⊎ (shift_by p q j b + bits_of j.width ≤ shift_by p q k a)
+      go true false is = let fits = (some_bytes k.width).2 in inl (omega (arith, low, fits))
+      go true true is = let fits = (some_bytes j.width).2 in let within = fits_word j b is also bt in inr (omega (arith, low, fits, within))
+      go false q is =
           let lt : a / word_bytes t < b / word_bytes t = cuts.next_word a b (let pos = (some_bytes k.width).0 in omega (arith, pos, le)) ((seat j b bt).alone is) in
           absurd (omega (arith, lt, same))
 
@@ -105,17 +127,21 @@ module _ (t : Target) (ok : IsTarget t) where
       go : (p q : Bool) → has_lane t k ≡ p → has_lane t j ≡ q
           → AreApart (if p then Lane (a / word_bytes t) (shift_at t k a) (bits_of k.width) else Parts (a % t.locks) (a / word_bytes t) (parts_for (bits_of k.width) t.word_bits) t.word_bits)
           (if q then Lane (b / word_bytes t) (shift_at t j b) (bits_of j.width) else Parts (b % t.locks) (b / word_bytes t) (parts_for (bits_of j.width) t.word_bits) t.word_bits)
-      go true true l m = λ same. inl (lane_end k j a b l m bt le same)
+      go true true l m = λ same. lanes_apart k j a b l m bt le same
       go true false l m = inl (cuts.next_word a b (let pos = (some_bytes k.width).0 in omega (arith, pos, le)) (begins j b m bt))
       go false true l m = inr (parts_end k j a b l at bt le)
       go false false l m = inl (parts_end k j a b l at bt le)
 
-  lane_ends : (k : Kind) (a : ℕ) → bits_of k.width ≤ t.word_bits → a % alignment_of t k ≡ 0 → shift_at t k a + bits_of k.width ≤ 64
-  lane_ends k a le at = go t.packed
+  lane_ends : (k : Kind) (a : ℕ) → has_lane t k ≡ true → a % alignment_of t k ≡ 0 → shift_at t k a + bits_of k.width ≤ 64
+  lane_ends k a lane at = go t.packed t.big refl
     where
-      go : (p : Bool) → (if p then 64 - t.word_bits + 8 * (a % word_bytes t) else 64 - bits_of k.width) + bits_of k.width ≤ 64
-      go true = (seat k a at).ends le
-      go false = ⊎_elim (λ (e : t.word_bits ≡ 32). omega (arith, e, le)) (λ (e : t.word_bits ≡ 64). omega (arith, e, le)) ok.bits
+      le : bits_of k.width ≤ t.word_bits
+      le = (has_lane-narrow t k lane).1
+
+      go : (p q : Bool) → t.packed ≡ p → shift_by p q k a + bits_of k.width ≤ 64
+      go true false is = (seat k a at).ends le
+      go true true is = let fits = (some_bytes k.width).2 in let within = fits_word k a is lane at in omega (arith, fits, within)
+      go false q is = ⊎_elim (λ (e : t.word_bits ≡ 32). omega (arith, e, le)) (λ (e : t.word_bits ≡ 64). omega (arith, e, le)) ok.bits
 
   some_lock : (a : ℕ) → a % t.locks < t.locks
   some_lock a = let some = ok.some in omega (arith, some)
@@ -126,7 +152,7 @@ module _ (t : Target) (ok : IsTarget t) where
       go : (p : Bool) → has_lane t k ≡ p → IsPlaced (shape_with t e os) k (if p then Lane (a / word_bytes t) (shift_at t k a) (bits_of k.width) else Parts (a % t.locks) (a / word_bytes t) (parts_for (bits_of k.width) t.word_bits) t.word_bits)
       go true l = record {
         wide = refl;
-        ends = lane_ends k a (has_lane-narrow t k l).1 at;
+        ends = lane_ends k a l at;
         within = cuts.in_words a e (let pos = (some_bytes k.width).0 in omega (arith, pos, le));
       }
       go false l = record { bits = refl; suffice = refl; within = parts_within k a e l at le; lock = some_lock a }

@@ -43,7 +43,8 @@ pub record Divides (b : ℕ) : Type 0 where
   pub next_whole : (x y c m : ℕ) → x % b ≡ 0 → m * b ≡ c → x + c ≤ y → x / b + m ≤ y / b
   pub in_words : (x e : ℕ) → x < e → x / b < (e + b - 1) / b
   pub whole_in_words : (x e c m : ℕ) → x % b ≡ 0 → m * b ≡ c → x + c ≤ e → x / b + m ≤ (e + b - 1) / b
-  pub few : (e : ℕ) → e ≤ 4194304 → (e + b - 1) / b ≤ 2 ^ 24
+  pub few : (e : ℕ) → e ≤ 16777216 * b → (e + b - 1) / b ≤ 2 ^ 24
+  pub some : (1 ≤ b) × (b ≤ 8)
 
 four : Divides 4
 four = record {
@@ -53,6 +54,7 @@ four = record {
   in_words = λ x e lt. omega (arith, lt);
   whole_in_words = λ x e c m z is le. omega (arith, z, is, le);
   few = λ e le. omega (arith, le);
+  some = (omega arith, omega arith);
 }
 
 eight : Divides 8
@@ -63,16 +65,18 @@ eight = record {
   in_words = λ x e lt. omega (arith, lt);
   whole_in_words = λ x e c m z is le. omega (arith, z, is, le);
   few = λ e le. omega (arith, le);
+  some = (omega arith, omega arith);
 }
 
 -- ---- objects at their addresses
 
--- an object at an aligned address: a lane ends with its word or before, parts begin a word, and so does each object
--- where nothing is packed
+-- an object at an aligned address: a lane ends with its word or before, and so do its bytes where objects share words;
+-- parts begin a word, and so does each object where nothing is packed
 pub record IsSeated (packed : Bool) (w : Width) (n a : ℕ) : Type 0 where
   pub ends : bits_of w ≤ n → 64 - n + 8 * (a % (n / 8)) + bits_of w ≤ 64
   pub whole : n < bits_of w → a % (n / 8) ≡ 0
   pub alone : packed ≡ false → a % (n / 8) ≡ 0
+  pub fits : packed ≡ true → bits_of w ≤ n → a % (n / 8) + width_bytes w ≤ n / 8
 
 -- parts fill their words where a value is wider than one; else there is one part
 pub record IsCounted (w : Width) (n : ℕ) : Type 0 where
@@ -80,18 +84,18 @@ pub record IsCounted (w : Width) (n : ℕ) : Type 0 where
   pub one : bits_of w ≤ n → parts_for (bits_of w) n ≡ 1
 
 seated32 : (packed : Bool) (w : Width) (a : ℕ) → a % alignment packed w 32 ≡ 0 → IsSeated packed w 32 a
-seated32 true W1 a e = record { ends = λ le. omega (arith, e, le); whole = λ lt. omega (arith, e, lt); alone = λ is. absurd cc }
-seated32 true W8 a e = record { ends = λ le. omega (arith, e, le); whole = λ lt. omega (arith, e, lt); alone = λ is. absurd cc }
-seated32 true W16 a e = record { ends = λ le. omega (arith, e, le); whole = λ lt. omega (arith, e, lt); alone = λ is. absurd cc }
-seated32 true W32 a e = record { ends = λ le. omega (arith, e, le); whole = λ lt. omega (arith, e, lt); alone = λ is. absurd cc }
-seated32 true W64 a e = record { ends = λ le. omega (arith, e, le); whole = λ lt. omega (arith, e, lt); alone = λ is. absurd cc }
-seated32 true W128 a e = record { ends = λ le. omega (arith, e, le); whole = λ lt. omega (arith, e, lt); alone = λ is. absurd cc }
-seated32 false W1 a e = record { ends = λ le. omega (arith, e, le); whole = λ lt. omega (arith, e, lt); alone = λ is. omega (arith, e) }
-seated32 false W8 a e = record { ends = λ le. omega (arith, e, le); whole = λ lt. omega (arith, e, lt); alone = λ is. omega (arith, e) }
-seated32 false W16 a e = record { ends = λ le. omega (arith, e, le); whole = λ lt. omega (arith, e, lt); alone = λ is. omega (arith, e) }
-seated32 false W32 a e = record { ends = λ le. omega (arith, e, le); whole = λ lt. omega (arith, e, lt); alone = λ is. omega (arith, e) }
-seated32 false W64 a e = record { ends = λ le. omega (arith, e, le); whole = λ lt. omega (arith, e, lt); alone = λ is. omega (arith, e) }
-seated32 false W128 a e = record { ends = λ le. omega (arith, e, le); whole = λ lt. omega (arith, e, lt); alone = λ is. omega (arith, e) }
+seated32 true W1 a e = record { ends = λ le. omega (arith, e, le); whole = λ lt. omega (arith, e, lt); alone = λ is. absurd cc; fits = λ is le. omega (arith, e, le) }
+seated32 true W8 a e = record { ends = λ le. omega (arith, e, le); whole = λ lt. omega (arith, e, lt); alone = λ is. absurd cc; fits = λ is le. omega (arith, e, le) }
+seated32 true W16 a e = record { ends = λ le. omega (arith, e, le); whole = λ lt. omega (arith, e, lt); alone = λ is. absurd cc; fits = λ is le. omega (arith, e, le) }
+seated32 true W32 a e = record { ends = λ le. omega (arith, e, le); whole = λ lt. omega (arith, e, lt); alone = λ is. absurd cc; fits = λ is le. omega (arith, e, le) }
+seated32 true W64 a e = record { ends = λ le. omega (arith, e, le); whole = λ lt. omega (arith, e, lt); alone = λ is. absurd cc; fits = λ is le. omega (arith, e, le) }
+seated32 true W128 a e = record { ends = λ le. omega (arith, e, le); whole = λ lt. omega (arith, e, lt); alone = λ is. absurd cc; fits = λ is le. omega (arith, e, le) }
+seated32 false W1 a e = record { ends = λ le. omega (arith, e, le); whole = λ lt. omega (arith, e, lt); alone = λ is. omega (arith, e); fits = λ is. absurd cc }
+seated32 false W8 a e = record { ends = λ le. omega (arith, e, le); whole = λ lt. omega (arith, e, lt); alone = λ is. omega (arith, e); fits = λ is. absurd cc }
+seated32 false W16 a e = record { ends = λ le. omega (arith, e, le); whole = λ lt. omega (arith, e, lt); alone = λ is. omega (arith, e); fits = λ is. absurd cc }
+seated32 false W32 a e = record { ends = λ le. omega (arith, e, le); whole = λ lt. omega (arith, e, lt); alone = λ is. omega (arith, e); fits = λ is. absurd cc }
+seated32 false W64 a e = record { ends = λ le. omega (arith, e, le); whole = λ lt. omega (arith, e, lt); alone = λ is. omega (arith, e); fits = λ is. absurd cc }
+seated32 false W128 a e = record { ends = λ le. omega (arith, e, le); whole = λ lt. omega (arith, e, lt); alone = λ is. omega (arith, e); fits = λ is. absurd cc }
 
 counted32 : (w : Width) → IsCounted w 32
 counted32 W1 = record { tight = λ lt. omega (arith, lt); one = λ le. omega (arith, le) }
@@ -102,18 +106,18 @@ counted32 W64 = record { tight = λ lt. omega (arith, lt); one = λ le. omega (a
 counted32 W128 = record { tight = λ lt. omega (arith, lt); one = λ le. omega (arith, le) }
 
 seated64 : (packed : Bool) (w : Width) (a : ℕ) → a % alignment packed w 64 ≡ 0 → IsSeated packed w 64 a
-seated64 true W1 a e = record { ends = λ le. omega (arith, e, le); whole = λ lt. omega (arith, e, lt); alone = λ is. absurd cc }
-seated64 true W8 a e = record { ends = λ le. omega (arith, e, le); whole = λ lt. omega (arith, e, lt); alone = λ is. absurd cc }
-seated64 true W16 a e = record { ends = λ le. omega (arith, e, le); whole = λ lt. omega (arith, e, lt); alone = λ is. absurd cc }
-seated64 true W32 a e = record { ends = λ le. omega (arith, e, le); whole = λ lt. omega (arith, e, lt); alone = λ is. absurd cc }
-seated64 true W64 a e = record { ends = λ le. omega (arith, e, le); whole = λ lt. omega (arith, e, lt); alone = λ is. absurd cc }
-seated64 true W128 a e = record { ends = λ le. omega (arith, e, le); whole = λ lt. omega (arith, e, lt); alone = λ is. absurd cc }
-seated64 false W1 a e = record { ends = λ le. omega (arith, e, le); whole = λ lt. omega (arith, e, lt); alone = λ is. omega (arith, e) }
-seated64 false W8 a e = record { ends = λ le. omega (arith, e, le); whole = λ lt. omega (arith, e, lt); alone = λ is. omega (arith, e) }
-seated64 false W16 a e = record { ends = λ le. omega (arith, e, le); whole = λ lt. omega (arith, e, lt); alone = λ is. omega (arith, e) }
-seated64 false W32 a e = record { ends = λ le. omega (arith, e, le); whole = λ lt. omega (arith, e, lt); alone = λ is. omega (arith, e) }
-seated64 false W64 a e = record { ends = λ le. omega (arith, e, le); whole = λ lt. omega (arith, e, lt); alone = λ is. omega (arith, e) }
-seated64 false W128 a e = record { ends = λ le. omega (arith, e, le); whole = λ lt. omega (arith, e, lt); alone = λ is. omega (arith, e) }
+seated64 true W1 a e = record { ends = λ le. omega (arith, e, le); whole = λ lt. omega (arith, e, lt); alone = λ is. absurd cc; fits = λ is le. omega (arith, e, le) }
+seated64 true W8 a e = record { ends = λ le. omega (arith, e, le); whole = λ lt. omega (arith, e, lt); alone = λ is. absurd cc; fits = λ is le. omega (arith, e, le) }
+seated64 true W16 a e = record { ends = λ le. omega (arith, e, le); whole = λ lt. omega (arith, e, lt); alone = λ is. absurd cc; fits = λ is le. omega (arith, e, le) }
+seated64 true W32 a e = record { ends = λ le. omega (arith, e, le); whole = λ lt. omega (arith, e, lt); alone = λ is. absurd cc; fits = λ is le. omega (arith, e, le) }
+seated64 true W64 a e = record { ends = λ le. omega (arith, e, le); whole = λ lt. omega (arith, e, lt); alone = λ is. absurd cc; fits = λ is le. omega (arith, e, le) }
+seated64 true W128 a e = record { ends = λ le. omega (arith, e, le); whole = λ lt. omega (arith, e, lt); alone = λ is. absurd cc; fits = λ is le. omega (arith, e, le) }
+seated64 false W1 a e = record { ends = λ le. omega (arith, e, le); whole = λ lt. omega (arith, e, lt); alone = λ is. omega (arith, e); fits = λ is. absurd cc }
+seated64 false W8 a e = record { ends = λ le. omega (arith, e, le); whole = λ lt. omega (arith, e, lt); alone = λ is. omega (arith, e); fits = λ is. absurd cc }
+seated64 false W16 a e = record { ends = λ le. omega (arith, e, le); whole = λ lt. omega (arith, e, lt); alone = λ is. omega (arith, e); fits = λ is. absurd cc }
+seated64 false W32 a e = record { ends = λ le. omega (arith, e, le); whole = λ lt. omega (arith, e, lt); alone = λ is. omega (arith, e); fits = λ is. absurd cc }
+seated64 false W64 a e = record { ends = λ le. omega (arith, e, le); whole = λ lt. omega (arith, e, lt); alone = λ is. omega (arith, e); fits = λ is. absurd cc }
+seated64 false W128 a e = record { ends = λ le. omega (arith, e, le); whole = λ lt. omega (arith, e, lt); alone = λ is. omega (arith, e); fits = λ is. absurd cc }
 
 counted64 : (w : Width) → IsCounted w 64
 counted64 W1 = record { tight = λ lt. omega (arith, lt); one = λ le. omega (arith, le) }

@@ -1,5 +1,5 @@
 -- Laws of layout and plans, as the module `laws` proves them.
-use Rattle.std.specs.Prelude.{◌≡◌, ◌↔◌, ℕ, ◌+◌, ◌%◌, ◌<◌, ◌≤◌, false, List, length, map, Some, slice_get}
+use Rattle.std.specs.Prelude.{◌≡◌, ◌↔◌, ℕ, ◌+◌, ◌%◌, ◌<◌, ◌≤◌, false, List, length, Some, slice_get}
 use Rattle.op_table.specs.declared.call.Call.{Call}
 use Rattle.op_table.specs.Kind.{bits_of, bytes_of}
 use Rattle.target_desc.specs.declared.target.Target.{Target}
@@ -10,7 +10,6 @@ use Rattle.place_core.specs.declared.places.Place.TheVariants.{Lane, Parts}
 use Rattle.place_core.specs.declared.places.Path.TheVariants.{One}
 use Rattle.place_core.specs.declared.places.WordOp.{WordOp}
 use Rattle.place_core.specs.declared.shape.Shape.{Shape}
-use Rattle.place_core.specs.Cells.{Cell}
 use Rattle.place_core.specs.Shapes.{place_of, kind_of, start_of, cells_of_shape, IsShape, most_in_shape}
 use Rattle.place_core.specs.Operations.{OpServes, plan_of}
 use Rattle.layout_plan.specs.Layout.{AreDeclared, alignment_of, address_of, place_at, shape_of}

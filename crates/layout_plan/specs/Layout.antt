@@ -57,10 +57,14 @@ address_of t xs o = slice_index (addresses_from t 0 xs) o
 abbrev pub has_lane : Target → Kind → Bool
 has_lane t k = not t.section && nat_le (bits_of k.width) t.word_bits
 
--- the lowest bit of the lane at an address: a target word is in the high bits of its table word, its first byte
--- lowest; an object that is alone in its word is at the top
+-- the lowest bit of the lane at an address where objects share words: a target word is in the high bits of its table
+-- word, its first byte lowest, and highest where `big` holds
+abbrev pub packed_shift : Target → Kind → ℕ → ℕ
+packed_shift t k a = if t.big then 64 - 8 * (a % word_bytes t) - 8 * bytes_of k else 64 - t.word_bits + 8 * (a % word_bytes t)
+
+-- the lowest bit of the lane at an address; an object that is alone in its word is at the top
 abbrev pub shift_at : Target → Kind → ℕ → ℕ
-shift_at t k a = if t.packed then 64 - t.word_bits + 8 * (a % word_bytes t) else 64 - bits_of k.width
+shift_at t k a = if t.packed then packed_shift t k a else 64 - bits_of k.width
 
 -- where an object at an address lies
 abbrev pub place_at : Target → Kind → ℕ → Place

@@ -1,10 +1,10 @@
 //! The shape of declared objects on a target.
 
-ghost use Rattle.std.specs.Prelude.{◌≡◌, ◌↔◌, ◌≤◌, ◌*◌, true, length, IsTrue, IfOk, IfErr, ◌<◌};
+ghost use Rattle.std.specs.Prelude.{◌≡◌, ◌↔◌, ◌≤◌, ◌*◌, ◌%◌, ◌^◌, true, length, IsTrue, IfOk, IfErr, ◌<◌};
 ghost use Rattle.target_desc.specs.Target.{IsTarget};
 ghost use Rattle.place_core.specs.Shapes.{IsShape, most_in_shape};
 ghost use Rattle.place_core.specs.DeclaredObjects.{IsDeclared};
-ghost use Rattle.layout_plan.specs.Layout.{AreDeclared, word_bytes, alignment_of, next_address, has_lane, shift_at, place_at, laid_at, words_for, shape_of};
+ghost use Rattle.layout_plan.specs.Layout.{AreDeclared, word_bytes, alignment_of, next_address, has_lane, packed_shift, shift_at, place_at, laid_at, words_for, shape_of};
 
 use op_table::{Call, Kind, NoMemory, bits, bytes, call_fits, kind_ok};
 use place_core::{Declared, Object, Objects, Place, Shape};
@@ -46,21 +46,42 @@ pub fn has_lane(target: &Target, kind: Kind) -> bool
     !target.section && bits(kind.width) <= target.word_bits
 }
 
-/// The lowest bit of a lane. The one place that says how bytes lie in a word.
+/// The lowest bit of a lane where objects share words. The one place that says how bytes lie in a word.
+#[tactic(auto, using(crate::proofs::Seating::fits_word))]
+fn packed_shift(target: &Target, kind: Kind, address: u32) -> u32
+    requires target { IsTarget target.now }
+    requires packed { target.now.packed ≡ true }
+    requires lane { has_lane target.now kind ≡ true }
+    requires aligned { address % alignment_of target.now kind ≡ 0 }
+    ensures { result ≡ packed_shift target.now kind address }
+{
+    let before = 8 * (address % word_bytes(target));
+    if target.big {
+        64 - before - 8 * bytes(kind)
+    } else {
+        64 - target.word_bits + before
+    }
+}
+
+/// The lowest bit of a lane. Where objects don't share words, each is at the top of its own.
 fn shift_at(target: &Target, kind: Kind, address: u32) -> u32
     requires target { IsTarget target.now }
     requires lane { has_lane target.now kind ≡ true }
+    requires aligned { address % alignment_of target.now kind ≡ 0 }
     ensures { result ≡ shift_at target.now kind address }
 {
     if target.packed {
-        64 - target.word_bits + 8 * (address % word_bytes(target))
+        packed_shift(target, kind, address)
     } else {
         64 - bits(kind.width)
     }
 }
 
-fn place_at(target: &Target, kind: Kind, address: u32) -> Place
+/// Where an object of a kind lies whose first byte is at an address, which is aligned: a multiple of the kind's bytes,
+/// and of a word's where nothing is packed. It has a lane where `has_lane` holds, else parts.
+pub fn place_at(target: &Target, kind: Kind, address: u32) -> Place
     requires target { IsTarget target.now }
+    requires aligned { address % alignment_of target.now kind ≡ 0 }
     ensures { result ≡ place_at target.now kind address }
 {
     let width = bits(kind.width);
@@ -80,6 +101,7 @@ fn place_at(target: &Target, kind: Kind, address: u32) -> Place
 
 fn laid_at(target: &Target, declared: &Declared, address: u32) -> Object
     requires target { IsTarget target.now }
+    requires aligned { address % alignment_of target.now declared.now.kind ≡ 0 }
     ensures { result ≡ laid_at target.now declared.now address }
 {
     Object {
@@ -89,9 +111,11 @@ fn laid_at(target: &Target, declared: &Declared, address: u32) -> Object
     }
 }
 
-fn words_for(target: &Target, bytes: u32) -> u32
+/// How many words hold so many bytes: the words of a shape, where the place after its last object is at `bytes`. A
+/// shape has at most 2^24 words, so at most 2^27 bytes.
+pub fn words_for(target: &Target, bytes: u32) -> u32
     requires target { IsTarget target.now }
-    requires few { bytes ≤ 4194304 }
+    requires few { bytes ≤ 2 ^ 27 }
     ensures { result ≡ words_for target.now bytes }
 {
     let size = word_bytes(target);

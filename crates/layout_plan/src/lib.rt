@@ -8,6 +8,6 @@ mod soles;
 #[cfg(test)]
 mod tests;
 
-pub use layout::{are_declared, has_lane, lay, next_address};
+pub use layout::{are_declared, has_lane, lay, next_address, place_at, words_for};
 pub use plans::{is_sole_at, path_with, plan};
 pub use soles::Plans;

@@ -6,7 +6,7 @@ ghost use Rattle.place_core.specs.Shapes.{IsShape};
 mod paths;
 
 use super::*;
-use op_table::{Class, Kind, Width, bytes};
+use op_table::{Class, Kind, StepSet, Width, bytes};
 use place_core::{Declared, Name, Place, Shape, shape_ok};
 use std::alloc::Global;
 use std::process::Abort;
@@ -231,6 +231,55 @@ fn objects_apart_are_at_the_top(rt: HostRuntime) -> Result<(), Fail> {
             lane(1, 63, 1),
             lane(2, 48, 16),
             lane(3, 0, 64),
+        ],
+    );
+    Ok(())
+}
+
+/// A packed target of all steps whose lowest addresses lie highest.
+fn big(word_bits: u32) -> Target {
+    Target {
+        word_bits,
+        packed: true,
+        steps: StepSet {
+            swap: true,
+            add: true,
+            bits: true,
+            order: true,
+        },
+        locks: 67,
+        section: false,
+        big: true,
+    }
+}
+
+#[test]
+fn big_lanes_begin_at_the_top(rt: HostRuntime) -> Result<(), Fail> {
+    let shape = laid_on(&rt, rt.alloc(), &big(32), &[U8, U16, U32, BOOL, BOOL, U64])?;
+    has_places(
+        &rt,
+        &shape,
+        6,
+        &[
+            lane(0, 56, 8),
+            lane(0, 32, 16),
+            lane(1, 32, 32),
+            lane(2, 56, 1),
+            lane(2, 48, 1),
+            parts(16, 4, 2, 32),
+        ],
+    );
+    let shape = laid_on(&rt, rt.alloc(), &big(64), &[BOOL, U8, U16, U32, U64])?;
+    has_places(
+        &rt,
+        &shape,
+        2,
+        &[
+            lane(0, 56, 1),
+            lane(0, 48, 8),
+            lane(0, 32, 16),
+            lane(0, 0, 32),
+            lane(1, 0, 64),
         ],
     );
     Ok(())

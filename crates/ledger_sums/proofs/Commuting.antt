@@ -8,7 +8,7 @@ use Rattle.std.proofs.lemmas.Nat.{and_assoc, and_comm, or_comm, xor_comm, mod-mu
 use Rattle.std.proofs.lemmas.Nat.Bits.{same_from_bits, bit_at_or}
 use Rattle.op_table.specs.declared.kind.Kind.{Kind}
 use Rattle.op_table.specs.declared.call.Call.{Call}
-use Rattle.op_table.specs.declared.call.Call.TheVariants.{Add, Sub, And, Or, Xor, Max, Min, Not, BitSet, BitClear, BitToggle}
+use Rattle.op_table.specs.declared.call.Call.TheVariants.{Add, Sub, And, Or, Xor, Max, Min, Not, BitSet, BitClear, BitToggle, AddFetch, SubFetch, AndFetch, OrFetch, XorFetch}
 use Rattle.op_table.specs.Kind.{bits_of, values_of}
 use Rattle.op_table.specs.Call.{after_of, rank_of, bit_place, CallFits}
 use Rattle.op_table.proofs.Rows.{place_fits}
@@ -41,6 +41,11 @@ operand k (Not q) = values_of k - 1
 operand k (BitSet p) = bit_place k p
 operand k (BitClear p) = values_of k - 1 - bit_place k p
 operand k (BitToggle p) = bit_place k p
+operand k (AddFetch a) = a
+operand k (SubFetch a) = values_of k - a
+operand k (AndFetch a) = a
+operand k (OrFetch a) = a
+operand k (XorFetch a) = a
 operand k _ = 0
 
 -- a family's one member: the family that a call is said to be of is its own
@@ -61,6 +66,11 @@ acts k (BitClear p) f v is small =
     in_family f Clears (λ h. v - bit_and v (bit_place k p) ≡ act k h (values_of k - 1 - bit_place k p) v) is
     (sym (and_without (bits_of k.width) v (bit_place k p) small (place_fits k p)))
 acts k (BitToggle p) f v is small = in_family f Flips (λ h. bit_xor v (bit_place k p) ≡ act k h (bit_place k p) v) is refl
+acts k (AddFetch a) f v is small = in_family f Sums (λ h. (v + a) % values_of k ≡ act k h a v) is refl
+acts k (SubFetch a) f v is small = in_family f Sums (λ h. (v + (values_of k - a)) % values_of k ≡ act k h (values_of k - a) v) is refl
+acts k (AndFetch a) f v is small = in_family f Clears (λ h. bit_and v a ≡ act k h a v) is refl
+acts k (OrFetch a) f v is small = in_family f Sets (λ h. bit_or v a ≡ act k h a v) is refl
+acts k (XorFetch a) f v is small = in_family f Flips (λ h. bit_xor v a ≡ act k h a v) is refl
 acts k _ f v is small = absurd cc
 
 -- what is asked of the number: that of a maximum or minimum is a value
@@ -84,6 +94,11 @@ operand_fits k (Not q) f is fits = in_family f Flips (λ h. OperandFits k h (val
 operand_fits k (BitSet p) f is fits = in_family f Sets (λ h. OperandFits k h (bit_place k p)) is tt
 operand_fits k (BitClear p) f is fits = in_family f Clears (λ h. OperandFits k h (values_of k - 1 - bit_place k p)) is tt
 operand_fits k (BitToggle p) f is fits = in_family f Flips (λ h. OperandFits k h (bit_place k p)) is tt
+operand_fits k (AddFetch a) f is fits = in_family f Sums (λ h. OperandFits k h a) is tt
+operand_fits k (SubFetch a) f is fits = in_family f Sums (λ h. OperandFits k h (values_of k - a)) is tt
+operand_fits k (AndFetch a) f is fits = in_family f Clears (λ h. OperandFits k h a) is tt
+operand_fits k (OrFetch a) f is fits = in_family f Sets (λ h. OperandFits k h a) is tt
+operand_fits k (XorFetch a) f is fits = in_family f Flips (λ h. OperandFits k h a) is tt
 operand_fits k _ f is fits = absurd cc
 
 -- ---- each family in either order

@@ -4,7 +4,7 @@ use Rattle.std.proofs.Math.Nat.{mod-add-mod}
 use Rattle.std.proofs.lemmas.Nat.{mod-mul-add, pow_pos}
 use Rattle.op_table.specs.declared.kind.Kind.{Kind}
 use Rattle.op_table.specs.declared.call.Call.{Call}
-use Rattle.op_table.specs.declared.call.Call.TheVariants.{Load, Add, Sub}
+use Rattle.op_table.specs.declared.call.Call.TheVariants.{Load, Add, Sub, AddFetch, SubFetch}
 use Rattle.op_table.specs.Kind.{bits_of, values_of}
 use Rattle.op_table.specs.Call.{after_of}
 use Rattle.ledger_sums.specs.declared.families.Family.TheVariants.{Sums}
@@ -21,6 +21,8 @@ added : (k : Kind) (c : Call) (v : ℕ) → suits Sums (mix_of c) ≡ true → v
 added k Load v suited small = nothing_added k v small
 added k (Add a q) v suited small = refl
 added k (Sub a q) v suited small = refl
+added k (AddFetch a) v suited small = refl
+added k (SubFetch a) v suited small = refl
 added k _ v suited small = absurd cc
 
 added_all : (k : Kind) (v : ℕ) (calls : List Call) → all_suit Sums calls ≡ true → v < values_of k → after_calls k v calls ≡ (v + total_of k calls) % values_of k

@@ -1,7 +1,7 @@
 -- Families of calls: calls of one family leave the same value in whichever order they are made.
 use Rattle.std.specs.Prelude.{Bool, true, false, ◌&&◌, ◌||◌, List, [], ◌∷◌}
 use Rattle.op_table.specs.declared.call.Call.{Call}
-use Rattle.op_table.specs.declared.call.Call.TheVariants.{Load, Store, Swap, Cas, CasWeak, Add, Sub, And, Nand, Or, Xor, Max, Min, Not, Neg, BitSet, BitClear, BitToggle}
+use Rattle.op_table.specs.declared.call.Call.TheVariants.{Load, Store, Swap, Cas, CasWeak, Add, Sub, And, Nand, Or, Xor, Max, Min, Not, Neg, BitSet, BitClear, BitToggle, AddFetch, SubFetch, AndFetch, NandFetch, OrFetch, XorFetch}
 use Rattle.ledger_sums.specs.declared.families.Family.{Family}
 use Rattle.ledger_sums.specs.declared.families.Family.TheVariants.{Sums, Flips, Sets, Clears, Maxima, Minima}
 use Rattle.ledger_sums.specs.declared.families.Mix.{Mix}
@@ -27,6 +27,12 @@ mix_of (Neg q) = Other
 mix_of (BitSet p) = One Sets
 mix_of (BitClear p) = One Clears
 mix_of (BitToggle p) = One Flips
+mix_of (AddFetch a) = One Sums
+mix_of (SubFetch a) = One Sums
+mix_of (AndFetch a) = One Clears
+mix_of (NandFetch a) = Other
+mix_of (OrFetch a) = One Sets
+mix_of (XorFetch a) = One Flips
 
 -- the families are one
 abbrev pub is_same : Family → Family → Bool

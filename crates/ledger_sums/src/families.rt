@@ -55,6 +55,12 @@ pub fn mix_of(call: &Call) -> Mix
         Call::CasWeak(_, _) => Mix::Other,
         Call::Nand(_) => Mix::Other,
         Call::Neg(_) => Mix::Other,
+        Call::AddFetch(_) => Mix::One(Family::Sums),
+        Call::SubFetch(_) => Mix::One(Family::Sums),
+        Call::AndFetch(_) => Mix::One(Family::Clears),
+        Call::NandFetch(_) => Mix::Other,
+        Call::OrFetch(_) => Mix::One(Family::Sets),
+        Call::XorFetch(_) => Mix::One(Family::Flips),
     }
 }
 

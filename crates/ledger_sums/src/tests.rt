@@ -131,6 +131,23 @@ fn sums_of_bytes_wrap(rt: HostRuntime) -> Result<(), Fail> {
 }
 
 #[test]
+fn calls_that_answer_the_new_value(rt: HostRuntime) -> Result<(), Fail> {
+    let first = [(0, Call::AddFetch(10)), (1, Call::SubFetch(1))];
+    let second = [(0, Call::Load), (1, Call::AddFetch(7))];
+    let told = fixed_pair(&rt, rt.alloc(), (U8, 250), &first, &second)?;
+    assert_eq!(rt; told, (Some(4), Some(0)));
+    let first = [(0, Call::XorFetch(0x0f)), (1, Call::OrFetch(0x81))];
+    let second = [(0, Call::Not(true)), (1, Call::BitSet(1))];
+    let told = fixed_pair(&rt, rt.alloc(), (U8, 0), &first, &second)?;
+    assert_eq!(rt; told, (Some(0xf0), Some(0x83)));
+    let first = [(0, Call::AndFetch(0x0f)), (1, Call::NandFetch(1))];
+    let second = [(0, Call::BitClear(0)), (1, Call::Load)];
+    let told = fixed_pair(&rt, rt.alloc(), (U8, 0xff), &first, &second)?;
+    assert_eq!(rt; told, (Some(0x0e), None));
+    Ok(())
+}
+
+#[test]
 fn sums_of_signed_numbers_wrap(rt: HostRuntime) -> Result<(), Fail> {
     let first = [(0, Call::Add(32767, false)), (1, Call::Sub(32768, false))];
     let second = [(0, Call::Add(7, true)), (1, Call::Load)];
@@ -204,6 +221,12 @@ fn calls_of_no_family(rt: HostRuntime) -> Result<(), Fail> {
     none_of(
         &rt,
         rt.alloc(),
+        [Call::NandFetch(1), Call::NandFetch(1)],
+        [Call::NandFetch(1), Call::AndFetch(1)],
+    )?;
+    none_of(
+        &rt,
+        rt.alloc(),
         [Call::Cas(4, 4), Call::Store(4)],
         [Call::Add(0, false), Call::Or(0, false)],
     )?;
@@ -223,6 +246,12 @@ fn calls_of_two_families(rt: HostRuntime) -> Result<(), Fail> {
         rt.alloc(),
         [Call::Max(1), Call::BitSet(0)],
         [Call::Min(1), Call::BitToggle(0)],
+    )?;
+    none_of(
+        &rt,
+        rt.alloc(),
+        [Call::AddFetch(1), Call::OrFetch(1)],
+        [Call::XorFetch(1), Call::AndFetch(1)],
     )?;
     Ok(())
 }

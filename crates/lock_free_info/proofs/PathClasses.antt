@@ -108,6 +108,11 @@ module _ (steps : StepSet) where
     on_lane (call.BitSet p) = same_choice steps.bits _ _
     on_lane (call.BitClear p) = same_choice steps.bits _ _
     on_lane (call.BitToggle p) = same_choice steps.bits _ _
+    on_lane (call.AddFetch a) = same_only (is_top s d) _ _ refl
+    on_lane (call.SubFetch a) = same_only (is_top s d) _ _ refl
+    on_lane (call.AndFetch a) = same_choice steps.bits _ _
+    on_lane (call.OrFetch a) = same_choice steps.bits _ _
+    on_lane (call.XorFetch a) = same_choice steps.bits _ _
     on_lane _ = refl
 
 at_place : (S : Shape) (k : Kind) (x : Call) (p : Option Place) → class_by (path_at S k x p) ≡ class_by (path_at S k (zero_call (operation_of k x)) p)

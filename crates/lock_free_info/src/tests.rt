@@ -89,6 +89,12 @@ n neg loop
 n bit_set one
 n bit_clear one
 n bit_toggle one
+n add_fetch one
+n sub_fetch one
+n and_fetch one
+n nand_fetch loop
+n or_fetch one
+n xor_fetch one
 ";
     assert_eq!(rt; text.as_str(), wanted);
     Ok(())
@@ -113,6 +119,10 @@ ready fetch_xor loop
 ready xor loop
 ready fetch_not loop
 ready not loop
+ready and_fetch loop
+ready nand_fetch loop
+ready or_fetch loop
+ready xor_fetch loop
 ";
     assert_eq!(rt; text.as_str(), wanted);
     Ok(())
@@ -145,7 +155,7 @@ head bit_toggle locked
 fn adds_in_one_step_at_the_top_only(rt: HostRuntime) -> Result<(), Fail> {
     let objects = numbered(rt.alloc(), 'c', "u8", 8)?;
     let text = taken(&rt, rt.alloc(), "word64", &objects, &[])?;
-    assert_eq!(rt; text.lines().count(), 209);
+    assert_eq!(rt; text.lines().count(), 257);
     line_at(&rt, &text, 0, "target word64");
     line_at(
         &rt,
@@ -156,7 +166,7 @@ fn adds_in_one_step_at_the_top_only(rt: HostRuntime) -> Result<(), Fail> {
     line_at(
         &rt,
         &text,
-        183,
+        225,
         "c7 u8 address 7 word 0 shift 56 lock_free true",
     );
     has_line(&rt, &text, "c7 fetch_add one");
@@ -181,11 +191,11 @@ u fetch_add loop
     line_at(
         &rt,
         &text,
-        27,
+        33,
         "g u64 address 8 parts 2 first 2 lock 8 lock_free false",
     );
-    line_at(&rt, &text, 28, "g load locked");
-    assert_eq!(rt; text.lines().count(), 53);
+    line_at(&rt, &text, 34, "g load locked");
+    assert_eq!(rt; text.lines().count(), 65);
     Ok(())
 }
 
@@ -193,7 +203,7 @@ u fetch_add loop
 fn objects_67_apart_share_a_lock(rt: HostRuntime) -> Result<(), Fail> {
     let objects = numbered(rt.alloc(), 'q', "u128", 68)?;
     let text = taken(&rt, rt.alloc(), "word64", &objects, &[])?;
-    assert_eq!(rt; text.lines().count(), 1769);
+    assert_eq!(rt; text.lines().count(), 2177);
     line_at(
         &rt,
         &text,
@@ -203,7 +213,7 @@ fn objects_67_apart_share_a_lock(rt: HostRuntime) -> Result<(), Fail> {
     line_at(
         &rt,
         &text,
-        1743,
+        2145,
         "q67 u128 address 1072 parts 2 first 134 lock 0 lock_free false",
     );
     Ok(())
@@ -280,7 +290,7 @@ fn tells_the_plan_of_a_workload(rt: HostRuntime) -> Result<(), Fail> {
     let end = write_plan(&work, &shape, &mut sink);
     assert!(rt; end.is_ok());
     let text = str::from_utf8(sink.bytes())?;
-    assert_eq!(rt; text.lines().count(), 53);
+    assert_eq!(rt; text.lines().count(), 65);
     line_at(&rt, text, 0, "target cas32");
     line_at(
         &rt,
@@ -291,9 +301,9 @@ fn tells_the_plan_of_a_workload(rt: HostRuntime) -> Result<(), Fail> {
     line_at(
         &rt,
         text,
-        27,
+        33,
         "g u64 address 8 parts 2 first 2 lock 8 lock_free false",
     );
-    line_at(&rt, text, 28, "g load locked");
+    line_at(&rt, text, 34, "g load locked");
     Ok(())
 }

@@ -8,7 +8,7 @@ use Rattle.op_table.specs.declared.kind.Class.{Class}
 use Rattle.op_table.specs.declared.kind.Class.TheVariants as class
 use Rattle.op_table.specs.declared.call.Call.TheVariants as call
 use Rattle.op_table.specs.declared.words.Operation.TheVariants as op
-use Rattle.op_table.specs.declared.call.Call.TheVariants.{Load, Store, Swap, Cas, CasWeak, Add, Sub, And, Nand, Or, Xor, Max, Min, Not, Neg, BitSet, BitClear, BitToggle}
+use Rattle.op_table.specs.declared.call.Call.TheVariants.{Load, Store, Swap, Cas, CasWeak, Add, Sub, And, Nand, Or, Xor, Max, Min, Not, Neg, BitSet, BitClear, BitToggle, AddFetch, SubFetch, AndFetch, NandFetch, OrFetch, XorFetch}
 use Rattle.op_table.specs.declared.call.Reply.TheVariants as reply
 use Rattle.op_table.specs.Kind.{bits_of, values_of}
 use Rattle.op_table.specs.Call.{rank_of, bit_place, unless_quiet, ReplyFits}
@@ -52,6 +52,12 @@ after_fits kind (Neg q) v is fits small = modulo kind (values_of kind - v)
 after_fits kind (BitSet p) v is fits small = or_lt (bits_of kind.width) v (bit_place kind p) small (place_fits kind p)
 after_fits kind (BitClear p) v is fits small = omega arith
 after_fits kind (BitToggle p) v is fits small = xor_lt (bits_of kind.width) v (bit_place kind p) small (place_fits kind p)
+after_fits kind (AddFetch a) v is fits small = modulo kind (v + a)
+after_fits kind (SubFetch a) v is fits small = modulo kind (v + (values_of kind - a))
+after_fits kind (AndFetch a) v is fits small = omega (arith, and_le_l v a)
+after_fits kind (NandFetch a) v is fits small = omega arith
+after_fits kind (OrFetch a) v is fits small = or_lt (bits_of kind.width) v a small fits.0
+after_fits kind (XorFetch a) v is fits small = xor_lt (bits_of kind.width) v a small fits.0
 
 quiet_fits : (kind : Kind) (q : Bool) (v : ℕ) → v < values_of kind → ReplyFits kind (unless_quiet q v)
 quiet_fits kind true v small = tt
@@ -80,6 +86,12 @@ answer_fits kind (Neg q) v is fits small = quiet_fits kind q v small
 answer_fits kind (BitSet p) v is fits small = tt
 answer_fits kind (BitClear p) v is fits small = tt
 answer_fits kind (BitToggle p) v is fits small = tt
+answer_fits kind (AddFetch a) v is fits small = after_fits kind (AddFetch a) v is fits small
+answer_fits kind (SubFetch a) v is fits small = after_fits kind (SubFetch a) v is fits small
+answer_fits kind (AndFetch a) v is fits small = after_fits kind (AndFetch a) v is fits small
+answer_fits kind (NandFetch a) v is fits small = after_fits kind (NandFetch a) v is fits small
+answer_fits kind (OrFetch a) v is fits small = after_fits kind (OrFetch a) v is fits small
+answer_fits kind (XorFetch a) v is fits small = after_fits kind (XorFetch a) v is fits small
 
 -- ---- calls
 
@@ -124,6 +136,16 @@ int_has class.Int false fits = (refl, refl, refl)
 int_has class.Bool q fits = absurd cc
 int_has class.Ptr q fits = absurd cc
 
+new_sum_has : (c : Class) → c ≡ class.Int → (has_operation c op.AddFetch ≡ true) × (has_operation c op.SubFetch ≡ true)
+new_sum_has class.Int is = (refl, refl)
+new_sum_has class.Bool is = absurd cc
+new_sum_has class.Ptr is = absurd cc
+
+new_logic_has : (c : Class) → c ≢ class.Ptr → (has_operation c op.AndFetch ≡ true) × (has_operation c op.NandFetch ≡ true) × (has_operation c op.OrFetch ≡ true) × (has_operation c op.XorFetch ≡ true)
+new_logic_has class.Int fits = (refl, refl, refl, refl)
+new_logic_has class.Bool fits = (refl, refl, refl, refl)
+new_logic_has class.Ptr fits = absurd (fits refl)
+
 pub call_has_operation : CallHasOperation
 call_has_operation kind call.Load is fits = (each_has kind.class).0
 call_has_operation kind (call.Store a) is fits = (each_has kind.class).1
@@ -143,3 +165,9 @@ call_has_operation kind (call.Neg q) is fits = (int_has kind.class q fits).2
 call_has_operation kind (call.BitSet p) is fits = (bit_has kind.class fits).0
 call_has_operation kind (call.BitClear p) is fits = (bit_has kind.class fits).1
 call_has_operation kind (call.BitToggle p) is fits = (bit_has kind.class fits).2
+call_has_operation kind (call.AddFetch a) is fits = (new_sum_has kind.class fits.1).0
+call_has_operation kind (call.SubFetch a) is fits = (new_sum_has kind.class fits.1).1
+call_has_operation kind (call.AndFetch a) is fits = (new_logic_has kind.class fits.1).0
+call_has_operation kind (call.NandFetch a) is fits = (new_logic_has kind.class fits.1).1
+call_has_operation kind (call.OrFetch a) is fits = (new_logic_has kind.class fits.1).2
+call_has_operation kind (call.XorFetch a) is fits = (new_logic_has kind.class fits.1).3

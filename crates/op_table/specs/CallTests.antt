@@ -1,7 +1,7 @@
 -- Tests for kinds of calls, and of replies. A call that no row names is not of the kind.
 use Rattle.std.specs.Prelude.{ℕ, Bool, true, false, ◌&&◌, ◌==◌, not}
 use Rattle.op_table.specs.declared.call.Call.{Call}
-use Rattle.op_table.specs.declared.call.Call.TheVariants.{Load, Cas, CasWeak}
+use Rattle.op_table.specs.declared.call.Call.TheVariants.{Load, Cas, CasWeak, AddFetch, SubFetch, AndFetch, NandFetch, OrFetch, XorFetch}
 use Rattle.op_table.specs.declared.call.Reply.{Reply}
 use Rattle.op_table.specs.declared.call.Reply.TheVariants.{Failed}
 
@@ -20,6 +20,16 @@ abbrev pub is_exchange : Call → Bool
 is_exchange (Cas e n) = true
 is_exchange (CasWeak e n) = true
 is_exchange _ = false
+
+-- a call that answers the new value
+abbrev pub is_newer : Call → Bool
+is_newer (AddFetch a) = true
+is_newer (SubFetch a) = true
+is_newer (AndFetch a) = true
+is_newer (NandFetch a) = true
+is_newer (OrFetch a) = true
+is_newer (XorFetch a) = true
+is_newer _ = false
 
 -- an exchange that expects another value than v
 abbrev pub expects_another : Call → ℕ → Bool

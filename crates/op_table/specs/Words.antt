@@ -9,7 +9,7 @@ use Rattle.op_table.specs.declared.kind.Kind.{Kind}
 use Rattle.op_table.specs.declared.call.Call.{Call}
 use Rattle.op_table.specs.declared.call.Call.TheVariants as call
 use Rattle.op_table.specs.declared.words.Operation.{Operation}
-use Rattle.op_table.specs.declared.words.Operation.TheVariants.{Load, Store, Swap, CompareExchange, CompareExchangeWeak, FetchAdd, Add, FetchSub, Sub, FetchAnd, And, FetchNand, FetchOr, Or, FetchXor, Xor, FetchMax, FetchMin, FetchNot, Not, FetchNeg, Neg, BitSet, BitClear, BitToggle, FetchByteAdd, FetchByteSub}
+use Rattle.op_table.specs.declared.words.Operation.TheVariants.{Load, Store, Swap, CompareExchange, CompareExchangeWeak, FetchAdd, Add, FetchSub, Sub, FetchAnd, And, FetchNand, FetchOr, Or, FetchXor, Xor, FetchMax, FetchMin, FetchNot, Not, FetchNeg, Neg, BitSet, BitClear, BitToggle, AddFetch, SubFetch, AndFetch, NandFetch, OrFetch, XorFetch, FetchByteAdd, FetchByteSub}
 
 -- ---- tables
 
@@ -98,13 +98,19 @@ operation_word Neg = codes "neg"
 operation_word BitSet = codes "bit_set"
 operation_word BitClear = codes "bit_clear"
 operation_word BitToggle = codes "bit_toggle"
+operation_word AddFetch = codes "add_fetch"
+operation_word SubFetch = codes "sub_fetch"
+operation_word AndFetch = codes "and_fetch"
+operation_word NandFetch = codes "nand_fetch"
+operation_word OrFetch = codes "or_fetch"
+operation_word XorFetch = codes "xor_fetch"
 operation_word FetchByteAdd = codes "fetch_byte_add"
 operation_word FetchByteSub = codes "fetch_byte_sub"
 
 -- the operations of a class, in the order in which plans list them
 abbrev pub operations_of : Class → List Operation
-operations_of class.Int = Load ∷ Store ∷ Swap ∷ CompareExchange ∷ CompareExchangeWeak ∷ FetchAdd ∷ Add ∷ FetchSub ∷ Sub ∷ FetchAnd ∷ And ∷ FetchNand ∷ FetchOr ∷ Or ∷ FetchXor ∷ Xor ∷ FetchMax ∷ FetchMin ∷ FetchNot ∷ Not ∷ FetchNeg ∷ Neg ∷ BitSet ∷ BitClear ∷ BitToggle ∷ []
-operations_of class.Bool = Load ∷ Store ∷ Swap ∷ CompareExchange ∷ CompareExchangeWeak ∷ FetchAnd ∷ And ∷ FetchNand ∷ FetchOr ∷ Or ∷ FetchXor ∷ Xor ∷ FetchNot ∷ Not ∷ []
+operations_of class.Int = Load ∷ Store ∷ Swap ∷ CompareExchange ∷ CompareExchangeWeak ∷ FetchAdd ∷ Add ∷ FetchSub ∷ Sub ∷ FetchAnd ∷ And ∷ FetchNand ∷ FetchOr ∷ Or ∷ FetchXor ∷ Xor ∷ FetchMax ∷ FetchMin ∷ FetchNot ∷ Not ∷ FetchNeg ∷ Neg ∷ BitSet ∷ BitClear ∷ BitToggle ∷ AddFetch ∷ SubFetch ∷ AndFetch ∷ NandFetch ∷ OrFetch ∷ XorFetch ∷ []
+operations_of class.Bool = Load ∷ Store ∷ Swap ∷ CompareExchange ∷ CompareExchangeWeak ∷ FetchAnd ∷ And ∷ FetchNand ∷ FetchOr ∷ Or ∷ FetchXor ∷ Xor ∷ FetchNot ∷ Not ∷ AndFetch ∷ NandFetch ∷ OrFetch ∷ XorFetch ∷ []
 operations_of class.Ptr = Load ∷ Store ∷ Swap ∷ CompareExchange ∷ CompareExchangeWeak ∷ FetchByteAdd ∷ FetchByteSub ∷ FetchAnd ∷ FetchOr ∷ FetchXor ∷ BitSet ∷ BitClear ∷ BitToggle ∷ []
 
 abbrev pub operation_rows : List (List ℕ × Operation)
@@ -149,6 +155,12 @@ operation_of kind (call.Neg q) = loud_or_quiet q FetchNeg Neg
 operation_of kind (call.BitSet p) = BitSet
 operation_of kind (call.BitClear p) = BitClear
 operation_of kind (call.BitToggle p) = BitToggle
+operation_of kind (call.AddFetch a) = AddFetch
+operation_of kind (call.SubFetch a) = SubFetch
+operation_of kind (call.AndFetch a) = AndFetch
+operation_of kind (call.NandFetch a) = NandFetch
+operation_of kind (call.OrFetch a) = OrFetch
+operation_of kind (call.XorFetch a) = XorFetch
 
 -- the word of a call of a kind
 abbrev pub call_word : Kind → Call → List ℕ

@@ -1,7 +1,8 @@
 //! Calls on objects, and replies.
 
 /// A call on an object. Values are bit patterns of the object's kind; the bool is `quiet`: such a call
-/// answers nothing. Positions of bits count modulo the width.
+/// answers nothing. Positions of bits count modulo the width. The last six answer the value after the call, as GCC's
+/// `__atomic_add_fetch` and its like; the other calls that answer a value answer the one before.
 #[derive(Clone, Copy, Debug, PartialEq, Eq)]
 pub enum Call {
     Load,
@@ -24,9 +25,15 @@ pub enum Call {
     BitSet(u32),
     BitClear(u32),
     BitToggle(u32),
+    AddFetch(u128),
+    SubFetch(u128),
+    AndFetch(u128),
+    NandFetch(u128),
+    OrFetch(u128),
+    XorFetch(u128),
 }
 
-/// What a call answers, with the value before the call where there is one.
+/// What a call answers, with the value before the call where there is one, or the value after it (see `Call`).
 #[derive(Clone, Copy, Debug, PartialEq, Eq)]
 pub enum Reply {
     Unit,

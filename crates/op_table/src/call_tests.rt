@@ -1,7 +1,7 @@
 //! Tests for kinds of calls, and of replies.
 
 ghost use Rattle.std.specs.Prelude.{◌≡◌};
-ghost use Rattle.op_table.specs.CallTests.{is_load, is_weak, is_exchange, expects_another, does_write};
+ghost use Rattle.op_table.specs.CallTests.{is_load, is_weak, is_exchange, is_newer, expects_another, does_write};
 
 use crate::call::{Call, Reply};
 
@@ -24,6 +24,21 @@ pub fn is_exchange(call: &Call) -> bool
     ensures { result ≡ is_exchange call.now }
 {
     matches!(call, Call::Cas(_, _) | Call::CasWeak(_, _))
+}
+
+/// Whether a call answers the new value (GCC's `__atomic_add_fetch` and its like).
+pub fn is_newer(call: &Call) -> bool
+    ensures { result ≡ is_newer call.now }
+{
+    matches!(
+        call,
+        Call::AddFetch(_)
+            | Call::SubFetch(_)
+            | Call::AndFetch(_)
+            | Call::NandFetch(_)
+            | Call::OrFetch(_)
+            | Call::XorFetch(_)
+    )
 }
 
 /// Whether a call is an exchange that expects another value than `v`, so that it fails on an object that holds `v`.

@@ -15,7 +15,7 @@ mod value;
 mod words;
 
 pub use call::{Call, Reply};
-pub use call_tests::{does_write, expects_another, is_exchange, is_load, is_weak};
+pub use call_tests::{does_write, expects_another, is_exchange, is_load, is_newer, is_weak};
 pub use kind::{Class, Kind, NoMemory, Width, bits, bytes, kind_ok};
 pub use line_buf::LineBuf;
 pub use operations::{after, answer, call_fits};

@@ -54,6 +54,13 @@ impl LineBuf {
         &self.buf[..self.len]
     }
 
+    /// Takes all bytes out, so that the next line begins where this one did.
+    pub fn clear(&mut self)
+        ensures { self.new ≡ [] }
+    {
+        self.len = 0;
+    }
+
     /// Adds a piece at the end.
     pub fn push_text(&mut self, text: &[u8])
         requires { length self.old + length text.now ≤ 256 }

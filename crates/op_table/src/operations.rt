@@ -1,5 +1,6 @@
 //! The table of operations: the value after a call and its reply, as arithmetic modulo 2 to the width.
-//! Load, store, exchange, add, sub, or, xor and and are those of C11 7.17.7, the others portable-atomic's.
+//! Load, store, exchange, add, sub, or, xor and and are those of C11 7.17.7, those that answer the new value are GCC's
+//! (`__atomic_add_fetch` and its like), the others portable-atomic's.
 
 ghost use Rattle.std.specs.Prelude.{◌≡◌, ◌↔◌, ◌+◌, ◌-◌, ◌/◌, ◌%◌, ◌<◌, ◌==◌, IsTrue};
 ghost use Rattle.op_table.specs.Kind.{values_of, IsKind};
@@ -98,12 +99,12 @@ pub fn after(kind: Kind, call: &Call, v: u128) -> u128
         Call::Swap(a) => *a,
         Call::Cas(e, n) => if v == *e { *n } else { v },
         Call::CasWeak(e, n) => if v == *e { *n } else { v },
-        Call::Add(a, _) => plus(kind, v, *a),
-        Call::Sub(a, _) => minus(kind, v, *a),
-        Call::And(a, _) => v & *a,
-        Call::Nand(a) => most - (v & *a),
-        Call::Or(a, _) => v | *a,
-        Call::Xor(a, _) => v ^ *a,
+        Call::Add(a, _) | Call::AddFetch(a) => plus(kind, v, *a),
+        Call::Sub(a, _) | Call::SubFetch(a) => minus(kind, v, *a),
+        Call::And(a, _) | Call::AndFetch(a) => v & *a,
+        Call::Nand(a) | Call::NandFetch(a) => most - (v & *a),
+        Call::Or(a, _) | Call::OrFetch(a) => v | *a,
+        Call::Xor(a, _) | Call::XorFetch(a) => v ^ *a,
         Call::Max(a) => if rank(kind, v) < rank(kind, *a) {
             *a
         } else {
@@ -154,6 +155,12 @@ pub fn answer(kind: Kind, call: &Call, v: u128) -> Reply
         Call::BitSet(p) => Reply::Bit(is_set(kind, *p, v)),
         Call::BitClear(p) => Reply::Bit(is_set(kind, *p, v)),
         Call::BitToggle(p) => Reply::Bit(is_set(kind, *p, v)),
+        Call::AddFetch(_)
+        | Call::SubFetch(_)
+        | Call::AndFetch(_)
+        | Call::NandFetch(_)
+        | Call::OrFetch(_)
+        | Call::XorFetch(_) => Reply::Value(after(kind, call, v)),
         _ => Reply::Value(v),
     }
 }
@@ -185,5 +192,11 @@ pub fn call_fits(kind: Kind, call: &Call) -> bool
         Call::BitSet(_) => !flag,
         Call::BitClear(_) => !flag,
         Call::BitToggle(_) => !flag,
+        Call::AddFetch(a) => *a <= most && int,
+        Call::SubFetch(a) => *a <= most && int,
+        Call::AndFetch(a) => *a <= most && !ptr,
+        Call::NandFetch(a) => *a <= most && !ptr,
+        Call::OrFetch(a) => *a <= most && !ptr,
+        Call::XorFetch(a) => *a <= most && !ptr,
     }
 }

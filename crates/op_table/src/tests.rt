@@ -236,6 +236,16 @@ fn calls_leave_and_reply_as_the_table_says(rt: HostRuntime) {
         ("u8", 4, Call::Cas(3, 9), 4, Reply::Failed(4)),
         ("u8", 4, Call::Cas(4, 9), 9, Reply::Done(4)),
         ("u8", 9, Call::CasWeak(9, 4), 4, Reply::Done(9)),
+        ("u8", 250, Call::AddFetch(10), 4, Reply::Value(4)),
+        ("u128", u128::MAX, Call::AddFetch(1), 0, Reply::Value(0)),
+        ("i8", 128, Call::SubFetch(1), 127, Reply::Value(127)),
+        ("i16", 0, Call::SubFetch(32768), 32768, Reply::Value(32768)),
+        ("u8", 12, Call::AndFetch(10), 8, Reply::Value(8)),
+        ("u8", 12, Call::NandFetch(10), 247, Reply::Value(247)),
+        ("u8", 12, Call::OrFetch(10), 14, Reply::Value(14)),
+        ("u8", 12, Call::XorFetch(10), 6, Reply::Value(6)),
+        ("bool", 1, Call::XorFetch(1), 0, Reply::Value(0)),
+        ("bool", 1, Call::NandFetch(1), 0, Reply::Value(0)),
     ];
     for (word, value, call, left, reply) in rows {
         assert_eq!(rt;
@@ -262,6 +272,15 @@ fn kinds_lack_the_calls_of_others(rt: HostRuntime) {
         ("ptr", Call::Nand(1), false),
         ("ptr", Call::Not(false), false),
         ("ptr", Call::BitClear(64), true),
+        ("u8", Call::AddFetch(256), false),
+        ("bool", Call::SubFetch(1), false),
+        ("bool", Call::NandFetch(1), true),
+        ("ptr", Call::AddFetch(1), false),
+        ("ptr", Call::SubFetch(1), false),
+        ("ptr", Call::AndFetch(1), false),
+        ("ptr", Call::NandFetch(1), false),
+        ("ptr", Call::OrFetch(1), false),
+        ("ptr", Call::XorFetch(1), false),
         ("i64", Call::BitToggle(4294967295), true),
     ];
     for (word, call, fits) in rows {
@@ -322,6 +341,12 @@ fn each_operation_has_its_word(rt: HostRuntime) {
     has_word(&rt, Operation::BitSet, "bit_set", bit);
     has_word(&rt, Operation::BitClear, "bit_clear", bit);
     has_word(&rt, Operation::BitToggle, "bit_toggle", bit);
+    has_word(&rt, Operation::AddFetch, "add_fetch", int);
+    has_word(&rt, Operation::SubFetch, "sub_fetch", int);
+    has_word(&rt, Operation::AndFetch, "and_fetch", logic);
+    has_word(&rt, Operation::NandFetch, "nand_fetch", logic);
+    has_word(&rt, Operation::OrFetch, "or_fetch", logic);
+    has_word(&rt, Operation::XorFetch, "xor_fetch", logic);
     has_word(&rt, Operation::FetchByteAdd, "fetch_byte_add", ptr);
     has_word(&rt, Operation::FetchByteSub, "fetch_byte_sub", ptr);
     for word in [
@@ -357,6 +382,8 @@ fn calls_have_the_words_of_their_kind(rt: HostRuntime) {
         ("i8", Call::Neg(false), "fetch_neg"),
         ("ptr", Call::CasWeak(0, 16), "compare_exchange_weak"),
         ("ptr", Call::BitToggle(3), "bit_toggle"),
+        ("i8", Call::SubFetch(1), "sub_fetch"),
+        ("bool", Call::OrFetch(1), "or_fetch"),
     ];
     for (word, call, want) in rows {
         let kind = kind(word);

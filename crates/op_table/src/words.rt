@@ -7,8 +7,8 @@ ghost use Rattle.op_table.specs.Words.{among, of_lengths, loud_or_quiet, sum_ope
 use crate::call::Call;
 use crate::kind::{Class, Kind, Width};
 
-/// What a call word stands for. A word with `fetch_` replies the value before, and its short form is quiet. The
-/// bytewise ones are the sums of a pointer.
+/// What a call word stands for. A word that begins with `fetch_` replies the value before, and its short form is quiet;
+/// one that ends with `_fetch` replies the value after. The bytewise ones are the sums of a pointer.
 #[derive(Clone, Copy, Debug, PartialEq, Eq)]
 pub enum Operation {
     Load,
@@ -36,6 +36,12 @@ pub enum Operation {
     BitSet,
     BitClear,
     BitToggle,
+    AddFetch,
+    SubFetch,
+    AndFetch,
+    NandFetch,
+    OrFetch,
+    XorFetch,
     FetchByteAdd,
     FetchByteSub,
 }
@@ -142,6 +148,12 @@ pub fn operation_word(operation: Operation) -> &'static str
         Operation::BitSet => "bit_set",
         Operation::BitClear => "bit_clear",
         Operation::BitToggle => "bit_toggle",
+        Operation::AddFetch => "add_fetch",
+        Operation::SubFetch => "sub_fetch",
+        Operation::AndFetch => "and_fetch",
+        Operation::NandFetch => "nand_fetch",
+        Operation::OrFetch => "or_fetch",
+        Operation::XorFetch => "xor_fetch",
         Operation::FetchByteAdd => "fetch_byte_add",
         Operation::FetchByteSub => "fetch_byte_sub",
     }
@@ -182,6 +194,8 @@ fn of_eight(word: &[u8]) -> Option<Operation>
         Some(Operation::FetchOr)
     } else if word == b"bit_set".as_slice() {
         Some(Operation::BitSet)
+    } else if word == b"or_fetch".as_slice() {
+        Some(Operation::OrFetch)
     } else {
         None
     }
@@ -208,6 +222,14 @@ fn of_nine(word: &[u8]) -> Option<Operation>
         Some(Operation::FetchNeg)
     } else if word == b"bit_clear".as_slice() {
         Some(Operation::BitClear)
+    } else if word == b"add_fetch".as_slice() {
+        Some(Operation::AddFetch)
+    } else if word == b"sub_fetch".as_slice() {
+        Some(Operation::SubFetch)
+    } else if word == b"and_fetch".as_slice() {
+        Some(Operation::AndFetch)
+    } else if word == b"xor_fetch".as_slice() {
+        Some(Operation::XorFetch)
     } else {
         None
     }
@@ -224,6 +246,8 @@ fn of_more(word: &[u8]) -> Option<Operation>
         Some(Operation::FetchNand)
     } else if word == b"bit_toggle".as_slice() {
         Some(Operation::BitToggle)
+    } else if word == b"nand_fetch".as_slice() {
+        Some(Operation::NandFetch)
     } else if word == b"fetch_byte_add".as_slice() {
         Some(Operation::FetchByteAdd)
     } else if word == b"fetch_byte_sub".as_slice() {
@@ -268,7 +292,11 @@ pub fn has_operation(class: Class, operation: Operation) -> bool
         | Operation::Or
         | Operation::Xor
         | Operation::FetchNot
-        | Operation::Not => class != Class::Ptr,
+        | Operation::Not
+        | Operation::AndFetch
+        | Operation::NandFetch
+        | Operation::OrFetch
+        | Operation::XorFetch => class != Class::Ptr,
         Operation::BitSet | Operation::BitClear | Operation::BitToggle => class != Class::Bool,
         Operation::FetchByteAdd | Operation::FetchByteSub => class == Class::Ptr,
         _ => class == Class::Int,
@@ -321,6 +349,12 @@ pub fn operation_of(kind: Kind, call: &Call) -> Operation
         Call::BitSet(_) => Op::BitSet,
         Call::BitClear(_) => Op::BitClear,
         Call::BitToggle(_) => Op::BitToggle,
+        Call::AddFetch(_) => Op::AddFetch,
+        Call::SubFetch(_) => Op::SubFetch,
+        Call::AndFetch(_) => Op::AndFetch,
+        Call::NandFetch(_) => Op::NandFetch,
+        Call::OrFetch(_) => Op::OrFetch,
+        Call::XorFetch(_) => Op::XorFetch,
     }
 }
 
@@ -331,7 +365,7 @@ pub fn call_word(kind: Kind, call: &Call) -> &'static str
     operation_word(operation_of(kind, call))
 }
 
-const OF_NUMBERS: [Operation; 25] = [
+const OF_NUMBERS: [Operation; 31] = [
     Operation::Load,
     Operation::Store,
     Operation::Swap,
@@ -357,9 +391,15 @@ const OF_NUMBERS: [Operation; 25] = [
     Operation::BitSet,
     Operation::BitClear,
     Operation::BitToggle,
+    Operation::AddFetch,
+    Operation::SubFetch,
+    Operation::AndFetch,
+    Operation::NandFetch,
+    Operation::OrFetch,
+    Operation::XorFetch,
 ];
 
-const OF_BOOLS: [Operation; 14] = [
+const OF_BOOLS: [Operation; 18] = [
     Operation::Load,
     Operation::Store,
     Operation::Swap,
@@ -374,6 +414,10 @@ const OF_BOOLS: [Operation; 14] = [
     Operation::Xor,
     Operation::FetchNot,
     Operation::Not,
+    Operation::AndFetch,
+    Operation::NandFetch,
+    Operation::OrFetch,
+    Operation::XorFetch,
 ];
 
 const OF_POINTERS: [Operation; 13] = [

@@ -19,9 +19,9 @@ use Rattle.place_core.specs.declared.places.Place.{Place}
 use Rattle.place_core.specs.declared.places.Place.TheVariants.{Lane, Parts}
 use Rattle.place_core.specs.declared.shape.Shape.{Shape}
 use Rattle.place_core.specs.Shapes.{place_in, kind_in, start_in, kind_of, start_of, parts_for, IsPlaced, AreApart, IsInSection, IsShape}
-use Rattle.place_core.specs.Validity.{IsSized, IsObject, first_bit, end_bit, span_of, span_in, ApartSpans, AllApart, are_in_row}
+use Rattle.place_core.specs.Validity.{IsSized, IsObject, first_bit, end_bit, span_of, span_in, IsSpan, ApartSpans, AllApart, are_in_row}
 use Rattle.place_core.proofs.ShapeFacts.{place_of-at, kind_of-at, start_of-at}
-use Rattle.place_core.proofs.SpanOrder.{AllPairs-permutation, IsSpan, turned_apart, row_apart, apart_row}
+use Rattle.place_core.proofs.SpanOrder.{AllPairs-permutation, turned_apart, row_apart, apart_row}
 
 pub bits_pos : (w : Width) → 0 < bits_of w
 bits_pos W1 = omega arith
@@ -72,7 +72,7 @@ module _ (S : Shape) (sized : IsSized S) where
   end_of : (k : Kind) (p : Place) → IsPlaced S k p → span_of p % 2 ^ 32 ≡ end_bit p
   end_of k p placed = let b = (some_bits k p placed).1 in mod-mul-add (first_bit p) (2 ^ 32) (end_bit p) (omega (arith, b))
 
-  is_span : (k : Kind) (p : Place) → IsPlaced S k p → IsSpan (span_of p)
+  pub is_span : (k : Kind) (p : Place) → IsPlaced S k p → IsSpan (span_of p)
   is_span k p placed = let a = first_of k p placed in let b = end_of k p placed in let c = (some_bits k p placed).0 in omega (arith, a, b, c)
 
   -- places are apart exactly where their spans are
@@ -123,7 +123,7 @@ module _ (S : Shape) (sized : IsSized S) (objects : List Object) (all : AllByRec
   span_at : (k d : ℕ) → k < length xs → get_or xs k d ≡ span_in (slice_get objects k)
   span_at k d lt = at_default xs k d lt ∙ filled k (inside k lt)
 
-  all_spans : All IsSpan xs
+  pub all_spans : All IsSpan xs
   all_spans = λ k d lt. subst IsSpan (sym (span_at k d lt)) (span_of_object S sized objects all k (inside k lt))
 
   pairs_from : AllApart objects → AllPairs ApartSpans xs

@@ -10,7 +10,7 @@ use Rattle.std.proofs.lemmas.List.Kept.{AllPairs-cons}
 use Rattle.std.proofs.lemmas.List.Sorted.{IsPermutation-keeps}
 use mathlib.Core.Logic.{dite}
 use native.Mathlib.Decide.{ℕ_discrete}
-use Rattle.place_core.specs.Validity.{ApartSpans, is_before, are_in_row}
+use Rattle.place_core.specs.Validity.{IsSpan, ApartSpans, is_before, are_in_row}
 
 -- ---- pairs of a list in another order
 
@@ -50,10 +50,6 @@ module _ {X : Type 0} (R : X → X → Type 0) (turned : (x y : X) → R x y →
 
 -- ---- spans
 
--- it begins before it ends
-abbrev pub IsSpan : ℕ → Type 0
-IsSpan x = x / 2 ^ 32 < x % 2 ^ 32
-
 pub turned_apart : (x y : ℕ) → ApartSpans x y → ApartSpans y x
 turned_apart x y (inl a) = inr a
 turned_apart x y (inr b) = inl b
@@ -62,10 +58,10 @@ both_true : (a b : Bool) → (a && b) ≡ true → (a ≡ true) × (b ≡ true)
 both_true true b e = (refl, e)
 both_true false b e = absurd cc
 
-abbrev Before : ℕ → ℕ → Type 0
+abbrev pub Before : ℕ → ℕ → Type 0
 Before x y = x % 2 ^ 32 ≤ y / 2 ^ 32
 
-row_before : (xs : List ℕ) → All IsSpan xs → are_in_row xs ≡ true → AllPairs Before xs
+pub row_before : (xs : List ℕ) → All IsSpan xs → are_in_row xs ≡ true → AllPairs Before xs
 row_before [] spans row = λ i j d lt within. absurd (omega (arith, within))
 row_before (x ∷ []) spans row = λ i j d lt within. absurd (omega (arith, lt, within))
 row_before (x ∷ y ∷ ys) spans row =

@@ -6,7 +6,7 @@ use Rattle.std.proofs.Math.Nat.{pow-le-pow_right}
 use Rattle.std.proofs.lemmas.Bool.{eqb-true}
 use Rattle.op_table.specs.declared.kind.Kind.{Kind}
 use Rattle.op_table.specs.declared.call.Call.{Call}
-use Rattle.op_table.specs.declared.call.Call.TheVariants.{Load, Store, Swap, Cas, CasWeak, Add, Sub, And, Or, Xor, Max, Min, Not, BitSet, BitClear, BitToggle}
+use Rattle.op_table.specs.declared.call.Call.TheVariants.{Load, Store, Swap, Cas, CasWeak, Add, Sub, And, Or, Xor, Max, Min, Not, BitSet, BitClear, BitToggle, AddFetch, SubFetch, AndFetch, OrFetch, XorFetch}
 use Rattle.op_table.specs.Kind.{bits_of, values_of}
 use Rattle.op_table.specs.Call.{after_of, answer_of, bit_place, rank_of, CallFits}
 use Rattle.op_table.proofs.Rows.{place_fits, after_fits}
@@ -94,6 +94,13 @@ module _ (k : Kind) (s v n : ℕ) (sole : Bool) (h : HasLane s (bits_of k.width)
       (and_lane s (bits_of k.width) v n (2 ^ bits_of k.width - 1 - bit_place k p) h (omega arith)))
   serves_lane (BitToggle p) done c e = by_op (after_of k (BitToggle p) v) (op.Xor (2 ^ (s + p % bits_of k.width))) done (cc (e))
       (subst (λ (z : ℕ). Replaces s v (bit_xor v (bit_place k p)) n (bit_xor n z)) (sym (bit_at s (p % bits_of k.width))) (xor_lane s (bits_of k.width) v n (bit_place k p) h (place_fits k p)))
+  serves_lane (AddFetch a) done c e = let t = only (is_top s (bits_of k.width)) (op.Add (a * 2 ^ s)) done e in
+      by_op (after_of k (AddFetch a) v) (op.Add (a * 2 ^ s)) done t.1 (add_lane s (bits_of k.width) v n a h (eqb-true (s + bits_of k.width) 64 t.0))
+  serves_lane (SubFetch a) done c e = let t = only (is_top s (bits_of k.width)) (op.Sub (a * 2 ^ s)) done e in
+      by_op (after_of k (SubFetch a) v) (op.Sub (a * 2 ^ s)) done t.1 (sub_lane s (bits_of k.width) v n a h c.0 (eqb-true (s + bits_of k.width) 64 t.0))
+  serves_lane (AndFetch a) done c e = by_op (bit_and v a) (op.And (a * 2 ^ s + outside s (bits_of k.width))) done (cc (e)) (and_lane s (bits_of k.width) v n a h c.0)
+  serves_lane (OrFetch a) done c e = by_op (bit_or v a) (op.Or (a * 2 ^ s)) done (cc (e)) (or_lane s (bits_of k.width) v n a h c.0)
+  serves_lane (XorFetch a) done c e = by_op (bit_xor v a) (op.Xor (a * 2 ^ s)) done (cc (e)) (xor_lane s (bits_of k.width) v n a h c.0)
   serves_lane _ done c e = absurd cc
 
 -- what a step that replaces a lane makes of its word

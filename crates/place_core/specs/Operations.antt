@@ -4,7 +4,7 @@ use prog.Atomic.{either}
 use Rattle.op_table.specs.declared.kind.Kind.{Kind}
 use Rattle.op_table.specs.declared.order.StepSet.{StepSet}
 use Rattle.op_table.specs.declared.call.Call.{Call}
-use Rattle.op_table.specs.declared.call.Call.TheVariants.{Load, Store, Swap, Cas, CasWeak, Add, Sub, And, Nand, Or, Xor, Max, Min, Not, Neg, BitSet, BitClear, BitToggle}
+use Rattle.op_table.specs.declared.call.Call.TheVariants.{Load, Store, Swap, Cas, CasWeak, Add, Sub, And, Nand, Or, Xor, Max, Min, Not, Neg, BitSet, BitClear, BitToggle, AddFetch, SubFetch, AndFetch, NandFetch, OrFetch, XorFetch}
 use Rattle.place_core.specs.declared.places.Place.{Place}
 use Rattle.place_core.specs.declared.places.Place.TheVariants.{Lane, Parts}
 use Rattle.place_core.specs.declared.places.WordOp.{WordOp}
@@ -69,6 +69,12 @@ op_for k s d sole (Neg q) = None
 op_for k s d sole (BitSet p) = Some (op.Or (2 ^ (s + p % d)))
 op_for k s d sole (BitClear p) = Some (op.And (2 ^ 64 - 1 - 2 ^ (s + p % d)))
 op_for k s d sole (BitToggle p) = Some (op.Xor (2 ^ (s + p % d)))
+op_for k s d sole (AddFetch a) = only_if (is_top s d) (op.Add (a * 2 ^ s))
+op_for k s d sole (SubFetch a) = only_if (is_top s d) (op.Sub (a * 2 ^ s))
+op_for k s d sole (AndFetch a) = Some (op.And (a * 2 ^ s + outside s d))
+op_for k s d sole (NandFetch a) = None
+op_for k s d sole (OrFetch a) = Some (op.Or (a * 2 ^ s))
+op_for k s d sole (XorFetch a) = Some (op.Xor (a * 2 ^ s))
 
 -- the object has a lane, and this step makes the call there
 pub record OpServes (S : Shape) (o : ℕ) (call : Call) (done : WordOp) : Type 0 where

@@ -1,5 +1,6 @@
 -- What `shape_ok` tests, step by step: sizes, then each object, then that objects are apart, by spans of bits.
-use Rattle.std.specs.Prelude.{◌≡◌, ◌⊎◌, ℕ, ◌+◌, ◌*◌, ◌/◌, ◌%◌, ◌^◌, ◌<◌, ◌≤◌, Bool, true, ◌&&◌, nat_le, List, [], ◌∷◌, length, Option, Some, None, slice_get}
+use Rattle.std.specs.Prelude.{◌≡◌, ◌⊎◌, ℕ, ◌+◌, ◌*◌, ◌/◌, ◌%◌, ◌^◌, ◌<◌, ◌≤◌, Bool, true, ◌&&◌, nat_le, List, [], ◌∷◌, length, map, Option, Some, None, slice_get, slice_index}
+use Rattle.std.specs.List.{All, AllByRecursion}
 use Rattle.op_table.specs.Kind.{values_of, IsKind}
 use Rattle.op_table.specs.Limits.{most_locks}
 use Rattle.place_core.specs.declared.places.Place.{Place}
@@ -41,6 +42,13 @@ abbrev pub span_in : Option Object → ℕ
 span_in None = 0
 span_in (Some a) = span_of a.place
 
+abbrev pub spans_of : List Object → List ℕ
+spans_of objects = map (λ (a : Object). span_of a.place) objects
+
+-- it begins before it ends
+abbrev pub IsSpan : ℕ → Type 0
+IsSpan x = x / 2 ^ 32 < x % 2 ^ 32
+
 -- one of the spans ends before the other begins
 abbrev pub ApartSpans : ℕ → ℕ → Type 0
 ApartSpans x y = (x % 2 ^ 32 ≤ y / 2 ^ 32) ⊎ (y % 2 ^ 32 ≤ x / 2 ^ 32)
@@ -48,6 +56,18 @@ ApartSpans x y = (x % 2 ^ 32 ≤ y / 2 ^ 32) ⊎ (y % 2 ^ 32 ≤ x / 2 ^ 32)
 -- any two objects have spans that are apart
 abbrev pub AllApart : List Object → Type 0
 AllApart objects = (o p : ℕ) → o < p → p < length objects → ApartSpans (span_in (slice_get objects o)) (span_in (slice_get objects p))
+
+-- a span is apart from each of these
+abbrev pub IsFree : ℕ → List ℕ → Type 0
+IsFree x spans = All (ApartSpans x) spans
+
+-- and so is the span of each object
+abbrev pub AreFree : List Object → List ℕ → Type 0
+AreFree objects spans = AllByRecursion (λ (a : Object). IsFree (span_of a.place) spans) objects
+
+-- a span begins behind the last of these, where there is one
+abbrev pub IsBehind : ℕ → List ℕ → Type 0
+IsBehind x spans = (k : ℕ) → k + 1 ≡ length spans → slice_index spans k % 2 ^ 32 ≤ x / 2 ^ 32
 
 -- the span ends before the next begins, where there is one
 abbrev pub is_before : ℕ → List ℕ → Bool

@@ -60,6 +60,10 @@ fn sum_wraps_in_its_lane(rt: HostRuntime) {
         Some((0x0704, Reply::Value(250)))
     );
     assert_eq!(rt; by_step(0x07FA, U8, 0, &call), None);
+    assert_eq!(rt;
+        by_hand(0x07FA, U8, 0, &Call::AddFetch(10)),
+        Some((0x0704, Reply::Value(4)))
+    );
 }
 
 #[test]
@@ -91,6 +95,10 @@ fn hands_and_masks_agree(rt: HostRuntime) {
     assert_eq!(rt;
         by_hand(0x070C, U8, 0, &Call::Nand(10)),
         Some((0x07F7, Reply::Value(12)))
+    );
+    assert_eq!(rt;
+        by_hand(0x070C, U8, 0, &Call::NandFetch(10)),
+        Some((0x07F7, Reply::Value(247)))
     );
     assert_eq!(rt;
         by_hand(0x070C, U8, 8, &Call::BitClear(9)),

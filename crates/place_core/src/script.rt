@@ -168,6 +168,16 @@ impl Script {
         }
     }
 
+    /// No pieces yet, with room for so many.
+    pub fn with_capacity(alloc: Global, pieces: u32) -> Result<Script, NoMemory>
+        ensures { IfOk result (λ script. script ≡ []) }
+    {
+        match Vec::with_capacity(alloc, pieces as usize) {
+            Ok(pieces) => Ok(Script { pieces, count: 0 }),
+            Err(_) => Err(NoMemory),
+        }
+    }
+
     /// How many lines there are, each of a block's counted as often as the block says.
     pub fn len(&self) -> u32
         ensures { result ≡ length (script_lines self.now) }

@@ -109,6 +109,9 @@ fn steps_of_a_lane_alone(rt: HostRuntime) {
         (Call::Max(5), None),
         (Call::Min(5), None),
         (Call::Neg(true), None),
+        (Call::AddFetch(3), None),
+        (Call::SubFetch(3), None),
+        (Call::NandFetch(0x0f), None),
     ] {
         assert_eq!(rt; step(U8, 40, true, &call), Some(op), "{call:?}");
     }
@@ -128,6 +131,9 @@ fn steps_beside_other_lanes(rt: HostRuntime) {
         (Call::Xor(0x81, false), Some(WordOp::Xor(AT_40_81))),
         (Call::BitToggle(8), Some(WordOp::Xor(AT_40_01))),
         (Call::Not(false), Some(WordOp::Xor(AT_40_FF))),
+        (Call::AndFetch(0x0f), Some(WordOp::And(ONES_40_0F))),
+        (Call::OrFetch(0x81), Some(WordOp::Or(AT_40_81))),
+        (Call::XorFetch(0x81), Some(WordOp::Xor(AT_40_81))),
     ] {
         assert_eq!(rt; step(U8, 40, false, &call), Some(op), "{call:?}");
     }
@@ -151,6 +157,9 @@ fn steps_at_the_top(rt: HostRuntime) {
         (U64, true, Call::And(0xf0, false), Some(WordOp::And(0xf0))),
         (U64, true, Call::BitSet(127), Some(WordOp::Or(1 << 63))),
         (U64, true, Call::Sub(7, true), Some(WordOp::Sub(7))),
+        (U8, false, Call::AddFetch(5), Some(WordOp::Add(TOP_05))),
+        (I8, false, Call::SubFetch(5), Some(WordOp::Sub(TOP_05))),
+        (U64, true, Call::NandFetch(0xf0), None),
     ] {
         let shift = 64 - bits(kind.width);
         assert_eq!(rt; step(kind, shift, sole, &call), Some(op), "{call:?}");
@@ -369,6 +378,41 @@ fn many_objects(rt: HostRuntime) -> Result<(), Fail> {
     ] {
         let fits = bytes_fit(rt.alloc(), count, words)?;
         assert_eq!(rt; fits, valid, "{count} in {words}");
+    }
+    Ok(())
+}
+
+/// Whether lanes of 8 bits, eight a word, are valid at 5,000 places that fall from the 5,000th, and then at one more.
+fn falling_fit(alloc: Global, last: u32) -> Result<bool, Fail> {
+    let mut objects = Vec::new(alloc);
+    for i in 0..5000 {
+        let at = 5000 - i;
+        let object = lane(U8, at / 8, at % 8 * 8, 8);
+        objects.push(object).map_err(|_| "memory")?;
+    }
+    let object = lane(U8, last / 8, last % 8 * 8, 8);
+    objects.push(object).map_err(|_| "memory")?;
+    let shape = Shape {
+        words: 626,
+        objects: Objects::of(objects),
+        ..shape_of(alloc, [])?
+    };
+    Ok(shape_ok(&shape))
+}
+
+/// The last object is compared with those at the start, in the middle and beside it.
+#[test]
+fn far_objects_may_overlap(rt: HostRuntime) -> Result<(), Fail> {
+    for (last, valid) in [
+        (0, true),
+        (5001, true),
+        (5000, false),
+        (2952, false),
+        (2953, false),
+        (1000, false),
+        (1, false),
+    ] {
+        assert_eq!(rt; falling_fit(rt.alloc(), last)?, valid, "{last}");
     }
     Ok(())
 }

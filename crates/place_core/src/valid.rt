@@ -1,10 +1,10 @@
 //! Which shapes are valid.
 
-ghost use Rattle.std.specs.Prelude.{◌≡◌, ◌↔◌, ◌<◌, ◌≤◌, ℕ, length, slice_get, slice_index, IsTrue};
-ghost use Rattle.std.specs.List.{AllByRecursion};
+ghost use Rattle.std.specs.Prelude.{◌≡◌, ◌↔◌, ◌<◌, ◌≤◌, ◌/◌, ◌%◌, ◌^◌, ℕ, true, nat_le, length, slice_get, slice_index, IsTrue};
+ghost use Rattle.std.specs.List.{All, AllByRecursion};
 ghost use Rattle.op_table.specs.Kind.{bits_of};
-ghost use Rattle.place_core.specs.Shapes.{IsPlaced, IsInSection, IsShape, most_in_shape};
-ghost use Rattle.place_core.specs.Validity.{IsSized, IsObject, span_of, span_in, AllApart, is_before, are_in_row};
+ghost use Rattle.place_core.specs.Shapes.{IsPlaced, IsInSection, IsShape};
+ghost use Rattle.place_core.specs.Validity.{IsSized, IsObject, span_of, span_in, spans_of, IsSpan, AllApart, IsFree, AreFree, IsBehind, is_before, are_in_row};
 
 use crate::places::{Object, Place};
 use crate::shape::Shape;
@@ -12,6 +12,9 @@ use op_table::{Call, Kind, MOST_LOCKS, bits, call_fits, kind_ok};
 
 /// The most objects of a shape.
 pub const MOST_IN_SHAPE: usize = 65_536;
+
+/// How many objects are compared at a time with those behind them.
+const CHUNK: usize = 2048;
 
 fn is_sized(shape: &Shape) -> bool
     ensures { IsTrue result ↔ IsSized shape.now }
@@ -80,10 +83,12 @@ fn are_objects(shape: &Shape, objects: &[Object]) -> bool
 
 /// The bits of a place, as one number: the first bit, counted over all data words, in the high half, and the bit
 /// after the last in the low half. So numbers are in the order of first bits.
+#[tactic(auto, using(crate::proofs::ShapeTests::is_span))]
 fn span(shape: &Shape, object: &Object) -> u64
     requires object { IsObject shape.now object.now }
     requires sized { IsSized shape.now }
-    ensures { result ≡ span_of object.now.place }
+    ensures value { result ≡ span_of object.now.place }
+    ensures span { IsSpan result }
 {
     let (first, end) = match object.place {
         Place::Lane { word, shift, width } => {
@@ -112,12 +117,19 @@ fn put_spans(shape: &Shape, objects: &[Object], spans: &mut [u64])
     }
 }
 
+/// Whether one span ends before another begins.
+fn ends_before(span: u64, next: u64) -> bool
+    ensures { result ≡ nat_le (span % 2 ^ 32) (next / 2 ^ 32) }
+{
+    span % 4294967296 <= next / 4294967296
+}
+
 fn is_before(span: u64, after: &[u64]) -> bool
     ensures { result ≡ is_before span after.now }
 {
     match after {
         [] => true,
-        [next, ..] => span % 4294967296 <= *next / 4294967296,
+        [next, ..] => ends_before(span, *next),
     }
 }
 
@@ -134,23 +146,116 @@ fn are_in_row(spans: &[u64]) -> bool
     true
 }
 
-/// Whether no two objects share a bit: sorted by their first bits, each ends before the next begins. The table of
-/// spans is a local of this function, half a megabyte of stack, since no memory may be asked for.
+fn is_behind(span: u64, below: &[u64]) -> bool
+    ensures { IsTrue result ↔ IsBehind span below.now }
+{
+    match below {
+        [] => true,
+        [.., last] => ends_before(*last, span),
+    }
+}
+
+/// Whether a span shares no bit with any of a row: it lies between two neighbours.
+fn is_free(span: u64, row: &[u64]) -> bool
+    requires span { IsSpan span }
+    requires spans { All IsSpan row.now }
+    requires row { are_in_row row.now ≡ true }
+    ensures { IsTrue result ↔ IsFree span row.now }
+{
+    match row.binary_search(&span) {
+        Ok(_) => false,
+        Err(at) => {
+            let (below, above) = row.split_at(at);
+            is_behind(span, below) && is_before(span, above)
+        }
+    }
+}
+
+fn are_free(shape: &Shape, objects: &[Object], row: &[u64]) -> bool
+    requires objects { AllByRecursion (IsObject shape.now) objects.now }
+    requires sized { IsSized shape.now }
+    requires spans { All IsSpan row.now }
+    requires row { are_in_row row.now ≡ true }
+    ensures { IsTrue result ↔ AreFree objects.now row.now }
+{
+    let mut rest = objects;
+    'objects: while let [first, after @ ..] = rest {
+        if !is_free(span(shape, first), row) {
+            return false;
+        }
+        rest = after;
+    }
+    true
+}
+
+/// Whether no two objects of a chunk share a bit, and none shares one with those behind the chunk. The spans of the
+/// chunk are sorted in a local table, 16 KiB of stack, since no memory may be asked for.
+fn is_chunk_apart(shape: &Shape, chunk: &[Object], others: &[Object]) -> bool
+    requires chunk { AllByRecursion (IsObject shape.now) chunk.now }
+    requires others { AllByRecursion (IsObject shape.now) others.now }
+    requires sized { IsSized shape.now }
+    requires few { length chunk.now ≤ 2048 }
+    ensures { IsTrue result ↔ (AllApart chunk.now × AreFree others.now (spans_of chunk.now)) }
+{
+    let mut room = [0u64; CHUNK];
+    let spans = &mut room[..chunk.len()];
+    put_spans(shape, chunk, spans);
+    spans.sort_unstable();
+    are_in_row(spans) && are_free(shape, others, spans)
+}
+
+fn rises(shape: &Shape, first: &Object, after: &[Object]) -> bool
+    requires first { IsObject shape.now first.now }
+    requires after { AllByRecursion (IsObject shape.now) after.now }
+    requires sized { IsSized shape.now }
+    ensures { result ≡ is_before (span_of first.now.place) (spans_of after.now) }
+{
+    match after {
+        [] => true,
+        [next, ..] => ends_before(span(shape, first), span(shape, next)),
+    }
+}
+
+/// Whether each object ends before the next begins, as those do that are laid in declared order.
+fn are_rising(shape: &Shape, objects: &[Object]) -> bool
+    requires objects { AllByRecursion (IsObject shape.now) objects.now }
+    requires sized { IsSized shape.now }
+    ensures { result ≡ are_in_row (spans_of objects.now) }
+{
+    let mut rest = objects;
+    'objects: while let [first, after @ ..] = rest {
+        if !rises(shape, first, after) {
+            return false;
+        }
+        rest = after;
+    }
+    true
+}
+
+/// Whether no two objects share a bit: a look along them where they rise, else chunk by chunk.
 fn are_apart(shape: &Shape, objects: &[Object]) -> bool
     requires objects { AllByRecursion (IsObject shape.now) objects.now }
     requires sized { IsSized shape.now }
-    requires most { length objects.now ≤ most_in_shape }
     ensures { IsTrue result ↔ AllApart objects.now }
 {
-    let mut room = [0u64; MOST_IN_SHAPE];
-    let spans = &mut room[..objects.len()];
-    put_spans(shape, objects, spans);
-    spans.sort_unstable();
-    are_in_row(spans)
+    if are_rising(shape, objects) {
+        return true;
+    }
+    let mut rest = objects;
+    'chunks: while !rest.is_empty() {
+        let (chunk, others) = rest.split_at(rest.len().min(CHUNK));
+        if !is_chunk_apart(shape, chunk, others) {
+            return false;
+        }
+        rest = others;
+    }
+    true
 }
 
 /// Whether the shape is valid: its words, locks and objects are within their limits, each object is of a kind, with a
-/// start and a place that fit it, and no two share a bit. It takes n log n steps for n objects.
+/// start and a place that fit it, and no two share a bit. It takes a few steps an object where each lies behind the one
+/// before, else n log n steps for n objects up to 2,048, and for more as many searches of an object among 2,048 as there
+/// are objects and chunks of 2,048 before them. It asks for no memory, and has 16 KiB of stack.
 #[tactic(auto, using(crate::proofs::ShapeTests::sizes, crate::proofs::ShapeTests::objects_fit))]
 pub fn shape_ok(shape: &Shape) -> bool
     ensures { IsTrue result ↔ IsShape shape.now }

@@ -3,50 +3,69 @@
 
 use place_core::OpenGate;
 use std::alloc::Global;
-use std::io::{Read, Write};
+use std::io::{ErrorKind, Read, Write};
 use std::process::ExitCode;
 use std::sync::Wait;
 use std::thread::Threads;
 use top_call::{ReadSource, Status, WriteSink, portable_call};
 
-/// The words of the command line, without the program's name.
-fn words(rt: &HostRuntime) -> Option<Vec<String>> {
+/// The words of the command line, without the program's name. A word that isn't UTF-8 is no form's.
+fn words(rt: &HostRuntime) -> Result<Vec<String>, Status> {
+    let args = match std::env::args(rt) {
+        Ok(args) => args,
+        Err(error) => {
+            return Err(match error.kind() {
+                ErrorKind::InvalidData => Status::Usage,
+                _ => Status::NoMemory,
+            });
+        }
+    };
     let mut words = Vec::new(rt.alloc());
-    let args = std::env::args(rt).ok()?;
     for word in args.skip(1) {
-        words.push(word).ok()?;
+        words.push(word).map_err(|_| Status::NoMemory)?;
     }
-    Some(words)
+    Ok(words)
 }
 
-/// Runs the top call, and hands on what the sink holds. Where that can't be handed on, the sink failed.
-fn run<R: Threads + Wait + Sync, I: Read + Drop, O: Write + Drop>(
+/// Serves the words over a reader and a writer, and closes the sink. Where it can't hand on what it holds, the sink
+/// failed.
+fn serve<R: Threads + Wait + Sync, I: Read + Drop, O: Write + Drop>(
     rt: &R,
     alloc: Global,
     words: &[String],
-    source: &mut ReadSource<I>,
-    sink: &mut WriteSink<O>,
+    input: I,
+    output: O,
 ) -> Status {
-    let outcome = portable_call(rt, alloc, words, source, sink, &OpenGate);
-    match sink.flush() {
-        Ok(()) => outcome.status,
+    let mut source = ReadSource::new(input);
+    let Ok(mut sink) = WriteSink::new(alloc, output) else {
+        return Status::NoMemory;
+    };
+    let outcome = portable_call(rt, alloc, words, &mut source, &mut sink, &OpenGate);
+    match sink.close() {
+        Ok(_) => outcome.status,
         Err(_) => Status::WriteFault,
     }
 }
 
+/// All forms of the words.
+const USAGE: &str =
+    "usage: portable run|plan [--target NAME] | check | convert | targets | many SEED THREADS CALLS\n";
+
+/// Writes the usage line. Nothing is left to be done where that fails.
+fn write_usage<W: Write>(errors: &mut W) {
+    let _ = errors.write_all(USAGE.as_bytes());
+}
+
 fn main(rt: HostRuntime) -> ExitCode {
-    let Some(words) = words(&rt) else {
-        return ExitCode::from(Status::NoMemory.code());
+    let status = match words(&rt) {
+        Ok(words) => serve(&rt, rt.alloc(), &words, rt.stdin(), rt.stdout()),
+        Err(status) => status,
     };
-    let mut source = ReadSource::new(rt.stdin());
-    let Ok(mut sink) = WriteSink::new(rt.alloc(), rt.stdout()) else {
-        return ExitCode::from(Status::NoMemory.code());
-    };
-    let status = run(&rt, rt.alloc(), &words, &mut source, &mut sink);
     if status == Status::Usage {
-        let _ = eprintln!(rt;
-            "usage: portable run|plan [--target NAME] | check | targets | many SEED THREADS CALLS"
-        );
+        write_usage(&mut rt.stderr());
     }
     ExitCode::from(status.code())
 }
+
+#[cfg(test)]
+mod tests;

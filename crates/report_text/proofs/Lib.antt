@@ -1,3 +1,6 @@
 pub mod Walks
 pub mod LineKinds
 mod LineSteps
+mod ManyLines
+pub mod LastLoads
+pub mod ManyValues

@@ -9,7 +9,7 @@ use Rattle.place_core.specs.declared.script.Line.{Line}
 use Rattle.place_core.specs.declared.script.Piece.{Piece}
 use Rattle.place_core.specs.Pieces.{script_lines}
 use Rattle.target_desc.specs.declared.target.Target.{Target}
-use Rattle.work_lang.specs.Workload.{Workload}
+use Rattle.work_lang.specs.Workload.{Workload, threads_of}
 use Rattle.work_lang.specs.Canonical.{target_line}
 use Rattle.report_text.specs.Report.{lines_with, reply_line, reply_lines, thread_head, thread_lines, last_line, last_lines, items_of, AnswerLines, AnswerThreads}
 use Rattle.place_core.proofs.Prefixes.{drop-next}
@@ -64,7 +64,7 @@ last_lines_end ds rs fs i past = ap (λ x. last_lines x (drop i rs) (drop i fs))
 
 -- the parts of a report, of the objects and threads of its workload
 pub lines_made : (w : Workload) (t : Target) (os : List Declared) (ts : List (List Line)) (replies : List (List Reply)) (last : List Reply)
-    (fixed : List (Option ℕ)) → t ≡ w.target → os ≡ w.objects → ts ≡ w.threads
+    (fixed : List (Option ℕ)) → t ≡ w.target → os ≡ w.objects → ts ≡ threads_of w
     → (target_line t ∷ []) ++ (thread_lines os 1 ts replies ++ ((codes "last\n" ∷ []) ++ last_lines os last fixed))
     ≡ lines_with w replies last fixed
 lines_made w t os ts replies last fixed target objects threads =

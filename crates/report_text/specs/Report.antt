@@ -15,7 +15,7 @@ use Rattle.place_core.specs.Runs.{replies_by, replies_from}
 use Rattle.ledger_sums.specs.Fixed.{fixed_values_of}
 use Rattle.work_lang.specs.Streams.{text_of}
 use Rattle.work_lang.specs.Spelling.{Pairs}
-use Rattle.work_lang.specs.Workload.{Workload}
+use Rattle.work_lang.specs.Workload.{Workload, threads_of}
 use Rattle.work_lang.specs.Reading.{kind_at}
 use Rattle.work_lang.specs.Print.{call_line}
 use Rattle.work_lang.specs.Canonical.{target_line}
@@ -67,17 +67,17 @@ last_lines (d ∷ ds) (r ∷ rs) (f ∷ fs) = last_line d r f ∷ last_lines ds 
 abbrev pub lines_with : Workload → List (List Reply) → List Reply → List (Option ℕ) → List (List ℕ)
 lines_with w replies last fixed =
     target_line w.target
-    ∷ (thread_lines w.objects 1 w.threads replies ++ codes "last\n" ∷ last_lines w.objects last fixed)
+    ∷ (thread_lines w.objects 1 (threads_of w) replies ++ codes "last\n" ∷ last_lines w.objects last fixed)
 
 -- ---- of a history
 
 -- the fixed values of a workload's objects
 abbrev pub fixed_of : Workload → List (Option ℕ)
-fixed_of w = fixed_values_of (cells_of w.objects) w.threads
+fixed_of w = fixed_values_of (cells_of w.objects) (threads_of w)
 
 -- the fixed values are told by the workload alone, all else by the history
 abbrev pub report_lines : Workload → List Entry → List (List ℕ)
-report_lines w H = lines_with w (replies_from H 1 w.threads) (replies_by H 0) (fixed_of w)
+report_lines w H = lines_with w (replies_from H 1 (threads_of w)) (replies_by H 0) (fixed_of w)
 
 -- the report of a history
 abbrev pub report_of : Workload → List Entry → List ℕ

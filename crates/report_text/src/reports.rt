@@ -7,7 +7,7 @@ ghost use Rattle.op_table.specs.Call.{ReplyFits};
 ghost use Rattle.work_lang.specs.Streams.{Writes};
 ghost use Rattle.place_core.specs.DeclaredObjects.{IsDeclared};
 ghost use Rattle.place_core.specs.Pieces.{script_lines};
-ghost use Rattle.work_lang.specs.Workload.{LineFits, HasLine};
+ghost use Rattle.work_lang.specs.Workload.{threads_of, LineFits, HasLine};
 ghost use Rattle.work_lang.specs.Reading.{kind_at};
 ghost use Rattle.report_text.specs.Report.{reply_line, reply_lines, thread_head, thread_lines, last_line, last_lines, lines_with, AnswerLines, AnswerThreads, AnswerObjects, items_of};
 
@@ -15,7 +15,7 @@ use crate::replies::{push_fixed, push_reply};
 use ledger_sums::Fixed;
 use op_table::{LineBuf, Reply};
 use place_core::{Declared, Line, Replies, Script};
-use work_lang::{Sink, Work, WriteEnd, push_call, write_all, write_target};
+use work_lang::{Sink, Work, WriteEnd, push_call, write_line, write_target};
 
 /// Writes a call with its reply.
 fn write_reply<K: Sink>(
@@ -26,14 +26,14 @@ fn write_reply<K: Sink>(
 ) -> Result<(), WriteEnd>
     requires line { IsSomeAnd (slice_get objects.now line.now.object) (λ d. IsKind d.kind × HasLine line.now d) }
     requires fits { ReplyFits (kind_at objects.now line.now.object) reply.now }
-    ensures { Writes K.taken K.faults sink.old sink.new result (reply_line objects.now line.now reply.now ∷ []) }
+    ensures { Writes K.taken K.faults K.whole sink.old sink.new result (reply_line objects.now line.now reply.now ∷ []) }
 {
     let mut out = LineBuf::new();
     push_call(&mut out, objects, line);
     out.push_text(b" = ");
     push_reply(&mut out, objects[line.object as usize].kind, reply);
     out.push_text(b"\n");
-    write_all(out.bytes(), sink)
+    write_line(out.bytes(), sink)
 }
 
 /// Writes the calls of a thread with their replies.
@@ -46,7 +46,7 @@ fn write_calls<K: Sink>(
     requires sound { AllByRecursion IsDeclared objects.now }
     requires fits { AllByRecursion (LineFits objects.now) (script_lines script.now) }
     requires answers { AnswerLines objects.now (script_lines script.now) replies.now.items }
-    ensures { Writes K.taken K.faults sink.old sink.new result (reply_lines objects.now (script_lines script.now) replies.now.items) }
+    ensures { Writes K.taken K.faults K.whole sink.old sink.new result (reply_lines objects.now (script_lines script.now) replies.now.items) }
 {
     let mut lines = script.lines();
     'calls: for i in 0..replies.len() {
@@ -63,13 +63,13 @@ fn write_calls<K: Sink>(
 
 /// Writes the line that begins a thread.
 fn write_head<K: Sink>(number: u32, sink: &mut K) -> Result<(), WriteEnd>
-    ensures { Writes K.taken K.faults sink.old sink.new result (thread_head number ∷ []) }
+    ensures { Writes K.taken K.faults K.whole sink.old sink.new result (thread_head number ∷ []) }
 {
     let mut out = LineBuf::new();
     out.push_text(b"thread ");
     out.push_number(u64::from(number));
     out.push_text(b"\n");
-    write_all(out.bytes(), sink)
+    write_line(out.bytes(), sink)
 }
 
 /// Writes the threads, counted from 1.
@@ -83,7 +83,7 @@ fn write_threads<K: Sink>(
     requires fits { AllByRecursion (AllByRecursion (LineFits objects.now)) (map script_lines threads.now) }
     requires answers { AnswerThreads objects.now (map script_lines threads.now) (map items_of replies.now) }
     requires few { length threads.now ≤ 64 }
-    ensures { Writes K.taken K.faults sink.old sink.new result (thread_lines objects.now 1 (map script_lines threads.now) (map items_of replies.now)) }
+    ensures { Writes K.taken K.faults K.whole sink.old sink.new result (thread_lines objects.now 1 (map script_lines threads.now) (map items_of replies.now)) }
 {
     let mut number = 1;
     let mut threads = threads;
@@ -108,7 +108,7 @@ fn write_threads<K: Sink>(
 }
 
 /// Writes an object, what its last load replied, and whether it has a fixed value.
-fn write_last_value<K: Sink>(
+pub(crate) fn write_last_value<K: Sink>(
     object: &Declared,
     reply: &Reply,
     fixed: Option<u128>,
@@ -116,7 +116,7 @@ fn write_last_value<K: Sink>(
 ) -> Result<(), WriteEnd>
     requires sound { IsDeclared object.now }
     requires fits { ReplyFits object.now.kind reply.now }
-    ensures { Writes K.taken K.faults sink.old sink.new result (last_line object.now reply.now fixed ∷ []) }
+    ensures { Writes K.taken K.faults K.whole sink.old sink.new result (last_line object.now reply.now fixed ∷ []) }
 {
     let mut out = LineBuf::new();
     let name = object.name;
@@ -125,7 +125,7 @@ fn write_last_value<K: Sink>(
     push_reply(&mut out, object.kind, reply);
     push_fixed(&mut out, fixed);
     out.push_text(b"\n");
-    write_all(out.bytes(), sink)
+    write_line(out.bytes(), sink)
 }
 
 /// Writes the last values.
@@ -138,7 +138,7 @@ fn write_last<K: Sink>(
     requires sound { AllByRecursion IsDeclared objects.now }
     requires answers { AnswerObjects objects.now last.now.items }
     requires whole { length fixed.now ≡ length objects.now }
-    ensures { Writes K.taken K.faults sink.old sink.new result (last_lines objects.now last.now.items fixed.now) }
+    ensures { Writes K.taken K.faults K.whole sink.old sink.new result (last_lines objects.now last.now.items fixed.now) }
 {
     let mut i = 0;
     'objects: while i < last.len() {
@@ -163,10 +163,10 @@ pub fn report<K: Sink>(
     last: &Replies,
     sink: &mut K,
 ) -> Result<(), WriteEnd>
-    requires threads { AnswerThreads work.now.objects work.now.threads (map items_of replies.now) }
+    requires threads { AnswerThreads work.now.objects (threads_of work.now) (map items_of replies.now) }
     requires last { AnswerObjects work.now.objects last.now.items }
     requires fixed { length fixed.now ≡ length work.now.objects }
-    ensures { Writes K.taken K.faults sink.old sink.new result (lines_with work.now (map items_of replies.now) last.now.items fixed.now) }
+    ensures { Writes K.taken K.faults K.whole sink.old sink.new result (lines_with work.now (map items_of replies.now) last.now.items fixed.now) }
 {
     let target = work.target();
     let objects = work.objects();
@@ -179,7 +179,7 @@ pub fn report<K: Sink>(
         Ok(()) => {}
         Err(end) => return Err(end),
     }
-    match write_all(b"last\n", sink) {
+    match write_line(b"last\n", sink) {
         Ok(()) => {}
         Err(end) => return Err(end),
     }

@@ -6,13 +6,15 @@ ghost use Rattle.place_core.specs.DeclaredObjects.{IsDeclared};
 ghost use Rattle.place_core.specs.Name.{is_name};
 ghost use Rattle.place_core.specs.Pieces.{script_lines};
 ghost use Rattle.place_core.specs.Runs.{ScriptsFit};
-ghost use Rattle.work_lang.specs.Workload.{LineFits};
+ghost use Rattle.work_lang.specs.Workload.{threads_of, LineFits};
 ghost use Rattle.report_text.specs.Report.{AnswerThreads, AnswerObjects};
 
 use crate::{push_reply, report};
 use ledger_sums::{Fixed, fixed_values};
 use op_table::{Call, Class, Kind, LineBuf, NoMemory, Order, Reply, StepSet, Width};
-use place_core::{Declared, Line, Name, Object, Objects, Place, Replies, Script, Shape, shape_ok};
+use place_core::{
+    Declared, Line, Name, Object, Objects, Piece, Place, Replies, Script, Shape, shape_ok,
+};
 use std::alloc::Global;
 use std::process::Abort;
 use std::test::*;
@@ -55,14 +57,14 @@ fn prints_each_reply(rt: HostRuntime) -> Result<(), Fail> {
 
 /// A script of one call.
 fn script_of(alloc: Global, line: Line) -> Result<Script, NoMemory>
-    ensures { IfOk result (λ s. script_lines s ≡ line ∷ []) }
+    ensures { IfOk result (λ s. s ≡ Piece.One line ∷ []) }
 {
     let mut script = Script::new(alloc);
     script.push(line)?;
     Ok(script)
 }
 
-/// A workload of one object, and two threads of a call each.
+/// A workload of version 2 with one object, and two threads of a call each.
 fn work_of(
     alloc: Global,
     target: Target,
@@ -76,7 +78,7 @@ fn work_of(
     requires first { LineFits (object ∷ []) first }
     requires second { LineFits (object ∷ []) second }
     ensures objects { IfOk result (λ w. w.objects ≡ object ∷ []) }
-    ensures threads { IfOk result (λ w. w.threads ≡ (first ∷ []) ∷ (second ∷ []) ∷ []) }
+    ensures threads { IfOk result (λ w. w.scripts ≡ (Piece.One first ∷ []) ∷ (Piece.One second ∷ []) ∷ []) }
 {
     let first = script_of(alloc, first)?;
     let second = script_of(alloc, second)?;
@@ -85,7 +87,7 @@ fn work_of(
     objects.push(object).map_err(|_| NoMemory)?;
     threads.push(first).map_err(|_| NoMemory)?;
     threads.push(second).map_err(|_| NoMemory)?;
-    Ok(Work::of_parts(target, objects, threads))
+    Ok(Work::of_parts(2, target, objects, threads))
 }
 
 /// The one reply.
@@ -144,7 +146,7 @@ fn write_report(
     last: Reply,
     sink: &mut MemSink,
 ) -> Result<(), Fail>
-    requires threads { AnswerThreads work.now.objects work.now.threads ((replies.0 ∷ []) ∷ (replies.1 ∷ []) ∷ []) }
+    requires threads { AnswerThreads work.now.objects (threads_of work.now) ((replies.0 ∷ []) ∷ (replies.1 ∷ []) ∷ []) }
     requires last { AnswerObjects work.now.objects (last ∷ []) }
     requires fixed { length fixed.now ≡ length work.now.objects }
 {

@@ -1,5 +1,13 @@
 //! The bodies of `apply`. A value is never read as a number of another type: its own operators work on it.
 
+// A new value, and the reply of a call that answers it.
+macro_rules! answered {
+    ($new:expr) => {{
+        let new = $new;
+        (new, Reply::Value(new.to_bits()))
+    }};
+}
+
 // The calls that each type but `Addr` has. The rest of the arms follow in braces.
 macro_rules! apply_logic {
     ($scalar:ty, $value:ident, $bits:ident, $call:ident, { $($rest:tt)* }) => {
@@ -17,6 +25,10 @@ macro_rules! apply_logic {
             Call::Or(a, quiet) => ($value | <$scalar>::from_bits(*a), unless_quiet(*quiet, $bits)),
             Call::Xor(a, quiet) => ($value ^ <$scalar>::from_bits(*a), unless_quiet(*quiet, $bits)),
             Call::Not(quiet) => (!$value, unless_quiet(*quiet, $bits)),
+            Call::AndFetch(a) => answered!($value & <$scalar>::from_bits(*a)),
+            Call::NandFetch(a) => answered!(!($value & <$scalar>::from_bits(*a))),
+            Call::OrFetch(a) => answered!($value | <$scalar>::from_bits(*a)),
+            Call::XorFetch(a) => answered!($value ^ <$scalar>::from_bits(*a)),
             $($rest)*
         }
     };
@@ -29,6 +41,8 @@ macro_rules! apply_int {
             Call::Add(a, quiet) => ($value.wrapping_add(<$scalar>::from_bits(*a)), unless_quiet(*quiet, $bits)),
             Call::Sub(a, quiet) => ($value.wrapping_sub(<$scalar>::from_bits(*a)), unless_quiet(*quiet, $bits)),
             Call::Neg(quiet) => ($value.wrapping_neg(), unless_quiet(*quiet, $bits)),
+            Call::AddFetch(a) => answered!($value.wrapping_add(<$scalar>::from_bits(*a))),
+            Call::SubFetch(a) => answered!($value.wrapping_sub(<$scalar>::from_bits(*a))),
             Call::Max(a) => {
                 let a = <$scalar>::from_bits(*a);
                 (if $value < a { a } else { $value }, Reply::Value($bits))
@@ -53,5 +67,6 @@ macro_rules! apply_int {
     };
 }
 
+pub(crate) use answered;
 pub(crate) use apply_int;
 pub(crate) use apply_logic;

@@ -59,6 +59,24 @@ fn sums_wrap(rt: HostRuntime) {
 }
 
 #[test]
+fn new_values_are_answered(rt: HostRuntime) {
+    leaves::<u8>(&rt, 250, Call::AddFetch(10), 4, Reply::Value(4));
+    leaves::<i8>(&rt, 128, Call::SubFetch(1), 127, Reply::Value(127));
+    leaves::<i16>(&rt, 32767, Call::AddFetch(1), 32768, Reply::Value(32768));
+    leaves::<u128>(
+        &rt,
+        340282366920938463463374607431768211455,
+        Call::AddFetch(1),
+        0,
+        Reply::Value(0),
+    );
+    leaves::<u8>(&rt, 12, Call::NandFetch(10), 247, Reply::Value(247));
+    leaves::<i32>(&rt, 12, Call::AndFetch(10), 8, Reply::Value(8));
+    leaves::<i64>(&rt, 12, Call::OrFetch(10), 14, Reply::Value(14));
+    leaves::<bool>(&rt, 1, Call::XorFetch(1), 0, Reply::Value(0));
+}
+
+#[test]
 fn addresses_count_bytes_and_wrap(rt: HostRuntime) {
     leaves::<Addr>(&rt, 4096, Call::Add(16, false), 4112, Reply::Value(4096));
     leaves::<Addr>(

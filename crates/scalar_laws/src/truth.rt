@@ -5,7 +5,7 @@ ghost use Rattle.std.proofs.Common.{rules};
 ghost use Rattle.std.specs.Int.{from_bool};
 ghost use Rattle.scalar_laws.specs.Kinds.{truth};
 
-use crate::bodies::apply_logic;
+use crate::bodies::{answered, apply_logic};
 use crate::replies::unless_quiet;
 use crate::scalar::{LogicScalar, Scalar};
 use op_table::{Call, Class, Kind, Reply, Width};

@@ -5,7 +5,7 @@ ghost use Rattle.std.proofs.Common.{rules};
 ghost use Rattle.op_table.specs.declared.kind.Width.TheVariants.{W8, W16, W32, W64, W128};
 ghost use Rattle.scalar_laws.specs.Kinds.{integer};
 
-use crate::bodies::{apply_int, apply_logic};
+use crate::bodies::{answered, apply_int, apply_logic};
 use crate::replies::unless_quiet;
 use crate::scalar::{IntScalar, LogicScalar, Scalar};
 use op_table::{Call, Class, Kind, Reply, Width};

@@ -11,7 +11,7 @@ use Rattle.atomic_table.specs.Table.{State, Act, Me, Valid, carried_after, stepp
 use Rattle.atomic_table.proofs.Lists.{exchanged}
 use Rattle.op_table.specs.declared.kind.Kind.{Kind}
 use Rattle.op_table.specs.declared.call.Call.{Call}
-use Rattle.op_table.specs.declared.call.Call.TheVariants.{Load, Store, Swap, Cas, CasWeak, Add, Sub, Max, Min}
+use Rattle.op_table.specs.declared.call.Call.TheVariants.{Load, Store, Swap, Cas, CasWeak, Add, Sub, Max, Min, AddFetch, SubFetch}
 use Rattle.op_table.specs.declared.call.Reply.{Reply}
 use Rattle.op_table.specs.declared.call.Reply.TheVariants as reply
 use Rattle.op_table.specs.Call.{after_of, answer_of, Permits, CallFits}
@@ -188,6 +188,8 @@ stored k s d sole (Add a q) z e = absurd (let t = only _ (op.Add (a * 2 ^ s)) (o
 stored k s d sole (Sub a q) z e = absurd (let t = only _ (op.Sub (a * 2 ^ s)) (op.Store z) e in cc)
 stored k s d sole (Max a) z e = absurd (let t = only _ (op.Max (a * 2 ^ s)) (op.Store z) e in cc)
 stored k s d sole (Min a) z e = absurd (let t = only _ (op.Min (a * 2 ^ s)) (op.Store z) e in cc)
+stored k s d sole (AddFetch a) z e = absurd (let t = only _ (op.Add (a * 2 ^ s)) (op.Store z) e in cc)
+stored k s d sole (SubFetch a) z e = absurd (let t = only _ (op.Sub (a * 2 ^ s)) (op.Store z) e in cc)
 stored k s d sole _ z e = absurd cc
 
 -- the number that the step tells: the one found, or another that its item doesn't show and at which the call replies the same

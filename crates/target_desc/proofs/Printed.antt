@@ -1,5 +1,5 @@
 -- The text of a target: its words, how long it is, and that it is read again.
-use Rattle.std.proofs.Common.{◌≡◌, ◌⊎◌, Bool, true, false, ◌&&◌, ltb, leb, eqb, ℕ, ◌+◌, ◌≤◌, ◌<◌, List, [], ◌∷◌, ◌++◌, length, Option, Some, None, refl, ap, subst, ◌∙◌, inl, inr, arith, length-append}
+use Rattle.std.proofs.Common.{◌≡◌, ◌⊎◌, Bool, true, false, ◌&&◌, ltb, leb, eqb, ℕ, ◌+◌, ◌≤◌, ◌<◌, List, [], ◌∷◌, ◌++◌, length, codes, Option, Some, None, refl, ap, subst, ◌∙◌, inl, inr, arith, length-append}
 use Rattle.std.specs.Prelude.{filter}
 use Rattle.std.specs.List.{list_all, slice_split, join_with_byte, AllByRecursion}
 use Rattle.std.specs.Fmt.{decimal}
@@ -14,8 +14,8 @@ use Rattle.op_table.specs.Words.{integer}
 use Rattle.op_table.specs.Laws.{is_word_byte, IsWordUpTo}
 use Rattle.op_table.proofs.ValueTexts.{value_text_is_short}
 use Rattle.target_desc.specs.declared.target.Target.{Target}
-use Rattle.target_desc.specs.Target.{IsTarget, builtins, name_of}
-use Rattle.target_desc.specs.Fields.{packed_word, steps_word, section_word}
+use Rattle.target_desc.specs.Target.{IsTarget, IsOfVersion, builtins, name_of}
+use Rattle.target_desc.specs.Fields.{packed_word, steps_word, section_word, big_words}
 use Rattle.target_desc.specs.Reading.{target_at, reading_of_target}
 use Rattle.target_desc.specs.Text.{description_words, description_text, words_by, target_words}
 use Rattle.target_desc.specs.Spelling.{IsName, IsTargetText}
@@ -66,6 +66,10 @@ steps_plain steps = tested 19 _ (steps_test steps.swap steps.add steps.bits step
 section_plain : (section : Bool) → IsWordUpTo 7 (section_word section)
 section_plain true = tested 7 _ refl
 section_plain false = tested 7 _ refl
+
+big_plain : (big : Bool) → AllByRecursion (IsWordUpTo 19) (big_words big)
+big_plain true = (tested 19 _ refl, tt)
+big_plain false = tt
 
 number_plain : (n : ℕ) → n ≤ 67 → IsWordUpTo 2 (decimal n)
 number_plain n most =
@@ -134,7 +138,7 @@ by_name t P named described = at (name_of t) refl
 described_plain : (t : Target) → IsTarget t → AllByRecursion (IsWordUpTo 19) (description_words t)
 described_plain t is = (
   longer 2 19 _ (omega arith) (number_plain t.word_bits (bits_small t.word_bits is.bits)),
-  (longer 6 19 _ (omega arith) (packed_plain t.packed), (steps_plain t.steps, (longer 2 19 _ (omega arith) (number_plain t.locks is.most), (longer 7 19 _ (omega arith) (section_plain t.section), tt)))),
+  (longer 6 19 _ (omega arith) (packed_plain t.packed), (steps_plain t.steps, (longer 2 19 _ (omega arith) (number_plain t.locks is.most), (longer 7 19 _ (omega arith) (section_plain t.section), big_plain t.big)))),
 )
 
 pub words_are_plain : WordsArePlain
@@ -150,11 +154,26 @@ joined_five : (a b c d e : List ℕ) → length (join_with_byte 32 (a ∷ b ∷ 
 joined_five a b c d e =
     omega (arith, length-append a (32 ∷ join_with_byte 32 (b ∷ c ∷ d ∷ e ∷ [])), length-append b (32 ∷ join_with_byte 32 (c ∷ d ∷ e ∷ [])), length-append c (32 ∷ join_with_byte 32 (d ∷ e ∷ [])), length-append d (32 ∷ e))
 
-pub described_short : (t : Target) → IsTarget t → length (description_text t) ≤ 40
+pub joined_six : (a b c d e f : List ℕ) → length (join_with_byte 32 (a ∷ b ∷ c ∷ d ∷ e ∷ f ∷ [])) ≡ length a + length b + length c + length d + length e + length f + 5
+joined_six a b c d e f =
+    omega (arith, joined_five b c d e f, length-append a (32 ∷ join_with_byte 32 (b ∷ c ∷ d ∷ e ∷ f ∷ [])))
+
+joined_short : (a b c d e : List ℕ) (big : Bool) → length (join_with_byte 32 (a ∷ b ∷ c ∷ d ∷ e ∷ big_words big)) ≤ length a + length b + length c + length d + length e + 8
+joined_short a b c d e true = omega (arith, joined_six a b c d e (codes "big"))
+joined_short a b c d e false = omega (arith, joined_five a b c d e)
+
+-- where `big` is printed
+pub big_described : (t : Target) → t.big ≡ true
+    → length (description_text t) ≡ length (decimal t.word_bits) + length (packed_word t.packed) + length (steps_word t.steps) + length (decimal t.locks) + length (section_word t.section) + 8
+big_described t is =
+    ap (λ (big : Bool). length (join_with_byte 32 (decimal t.word_bits ∷ packed_word t.packed ∷ steps_word t.steps ∷ decimal t.locks ∷ section_word t.section ∷ big_words big))) is
+    ∙ omega (arith, joined_six (decimal t.word_bits) (packed_word t.packed) (steps_word t.steps) (decimal t.locks) (section_word t.section) (codes "big"))
+
+pub described_short : (t : Target) → IsTarget t → length (description_text t) ≤ 44
 described_short t is =
     omega (
       arith,
-      joined_five (decimal t.word_bits) (packed_word t.packed) (steps_word t.steps) (decimal t.locks) (section_word t.section),
+      joined_short (decimal t.word_bits) (packed_word t.packed) (steps_word t.steps) (decimal t.locks) (section_word t.section) t.big,
       (number_plain t.word_bits (bits_small t.word_bits is.bits)).short,
       (packed_plain t.packed).short,
       (steps_plain t.steps).short,
@@ -163,16 +182,16 @@ described_short t is =
     )
 
 pub text_is_short : TextIsShort
-text_is_short t is = by_name t (λ ws. length (join_with_byte 32 ws) ≤ 40) (λ name n. omega (arith, (name_plain name t n).short)) (described_short t is)
+text_is_short t is = by_name t (λ ws. length (join_with_byte 32 ws) ≤ 44) (λ name n. omega (arith, (name_plain name t n).short)) (described_short t is)
 
-pub says_itself : (t : Target) → IsTarget t → IsTargetText (target_words t) t
-says_itself t is = by_name t (λ ws. IsTargetText ws t) (λ name n. inl (name, refl, n)) (inr (is, refl))
+pub says_itself : (version : ℕ) (t : Target) → IsTarget t → IsOfVersion version t → IsTargetText version (target_words t) t
+says_itself version t is of = by_name t (λ ws. IsTargetText version ws t) (λ name n. inl (name, refl, n)) (inr (is, of, refl))
 
 pub printed_is_read : PrintedIsRead
 unfolding reading_of_target
-printed_is_read t is =
-    ap (λ (ws : List (List ℕ)). target_at (record { taken = 1; left = ws })) (text_has_words t is)
-    ∙ (reading_is_spelling (record { taken = 1; left = target_words t }) t).1 (says_itself t is)
+printed_is_read version t is of =
+    ap (λ (ws : List (List ℕ)). target_at version (record { taken = 1; left = ws })) (text_has_words t is)
+    ∙ (reading_is_spelling version (record { taken = 1; left = target_words t }) t).1 (says_itself version t is of)
 
 pub name_is_printed : NameIsPrinted
 name_is_printed name t n = ap (λ (o : Option (List ℕ)). join_with_byte 32 (words_by o t)) (name_named name t n)

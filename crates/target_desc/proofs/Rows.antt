@@ -12,7 +12,7 @@ use Rattle.op_table.specs.Limits.{most_locks}
 use Rattle.target_desc.specs.declared.target.Target.{Target}
 use Rattle.target_desc.specs.Target.{no_steps, IsSection, IsTarget, same_bool, same_steps, same_target, suits_section, builtins, builtin_of, name_among, name_of}
 use Rattle.target_desc.specs.Spelling.{HasRow, IsName}
-use Rattle.target_desc.specs.Laws.{BuiltinIsName, NamedIsTarget}
+use Rattle.target_desc.specs.Laws.{BuiltinIsName, NamedIsTarget, NamedIsOfVersion}
 
 -- ---- equal targets
 
@@ -38,13 +38,15 @@ targets_are_same s t e =
     let bits = and_parts (eqb s.word_bits t.word_bits) _ e in
     let packed = and_parts (same_bool s.packed t.packed) _ bits.1 in
     let steps = and_parts (same_steps s.steps t.steps) _ packed.1 in
-    let locks = and_parts (eqb s.locks t.locks) (same_bool s.section t.section) steps.1 in
+    let locks = and_parts (eqb s.locks t.locks) _ steps.1 in
+    let section = and_parts (same_bool s.section t.section) (same_bool s.big t.big) locks.1 in
     let bits-is = eqb-true s.word_bits t.word_bits bits.0 in
     let packed-is = same_bools s.packed t.packed packed.0 in
     let steps-is = steps_are_same s.steps t.steps steps.0 in
     let locks-is = eqb-true s.locks t.locks locks.0 in
-    let section-is = same_bools s.section t.section locks.1 in
-    λ i. record { word_bits = bits-is i; packed = packed-is i; steps = steps-is i; locks = locks-is i; section = section-is i }
+    let section-is = same_bools s.section t.section section.0 in
+    let big-is = same_bools s.big t.big section.1 in
+    λ i. record { word_bits = bits-is i; packed = packed-is i; steps = steps-is i; locks = locks-is i; section = section-is i; big = big-is i }
 
 -- Rust's own test of two flags
 flags : (a b : Bool) → beq a b ≡ same_bool a b
@@ -54,8 +56,8 @@ flags false true = refl
 flags false false = refl
 
 -- Rust's own test of two targets
-pub tests_same : (s t : Target) → eqb s.word_bits t.word_bits && (beq s.packed t.packed && ((beq s.steps.swap t.steps.swap && (beq s.steps.add t.steps.add && (beq s.steps.bits t.steps.bits && beq s.steps.order t.steps.order))) && (eqb s.locks t.locks && beq s.section t.section))) ≡ same_target s t
-tests_same s t = rw (flags s.packed t.packed, flags s.steps.swap t.steps.swap, flags s.steps.add t.steps.add, flags s.steps.bits t.steps.bits, flags s.steps.order t.steps.order, flags s.section t.section) refl
+pub tests_same : (s t : Target) → eqb s.word_bits t.word_bits && (beq s.packed t.packed && ((beq s.steps.swap t.steps.swap && (beq s.steps.add t.steps.add && (beq s.steps.bits t.steps.bits && beq s.steps.order t.steps.order))) && (eqb s.locks t.locks && (beq s.section t.section && beq s.big t.big)))) ≡ same_target s t
+tests_same s t = rw (flags s.packed t.packed, flags s.steps.swap t.steps.swap, flags s.steps.add t.steps.add, flags s.steps.bits t.steps.bits, flags s.steps.order t.steps.order, flags s.section t.section, flags s.big t.big) refl
 
 -- ---- names
 
@@ -126,18 +128,20 @@ suits true t = suits_section t.packed t.steps t.locks
 suits false t = true
 
 abbrev is_target : Target → Bool
-is_target t = (eqb t.word_bits 32 || eqb t.word_bits 64) && (leb 1 t.locks && (leb t.locks most_locks && suits t.section t))
+is_target t = (eqb t.word_bits 32 || eqb t.word_bits 64) && (leb 1 t.locks && (leb t.locks most_locks && (suits t.section t && not t.big)))
 
 passed_is : (t : Target) → is_target t ≡ true → IsTarget t
 passed_is t e =
-    let bits = and_parts (eqb t.word_bits 32 || eqb t.word_bits 64) (leb 1 t.locks && (leb t.locks most_locks && suits t.section t)) e in
-    let some = and_parts (leb 1 t.locks) (leb t.locks most_locks && suits t.section t) bits.1 in
-    let most = and_parts (leb t.locks most_locks) (suits t.section t) some.1 in
+    let bits = and_parts (eqb t.word_bits 32 || eqb t.word_bits 64) (leb 1 t.locks && (leb t.locks most_locks && (suits t.section t && not t.big))) e in
+    let some = and_parts (leb 1 t.locks) (leb t.locks most_locks && (suits t.section t && not t.big)) bits.1 in
+    let most = and_parts (leb t.locks most_locks) (suits t.section t && not t.big) some.1 in
+    let section = and_parts (suits t.section t) (not t.big) most.1 in
     record {
       bits = widths (eqb t.word_bits 32) refl bits.0;
       some = leb-true 1 t.locks some.0;
       most = leb-true t.locks most_locks most.0;
-      section = λ is. suits_is t (ap (λ (b : Bool). suits b t) (sym is) ∙ most.1);
+      section = λ is. suits_is t (ap (λ (b : Bool). suits b t) (sym is) ∙ section.0);
+      big = λ is. let no = not_true t.big section.1 in absurd cc;
     }
   where
     widths : (b : Bool) → eqb t.word_bits 32 ≡ b → (b || eqb t.word_bits 64) ≡ true → (t.word_bits ≡ 32) ⊎ (t.word_bits ≡ 64)
@@ -146,6 +150,9 @@ passed_is t e =
 
 pub named_is_target : NamedIsTarget
 named_is_target name t is = passed_is t (row_passes (λ row. is_target row.1) builtins refl name t is)
+
+pub named_is_of_version : NamedIsOfVersion
+named_is_of_version version name t is big = let no = not_true t.big (row_passes (λ row. not row.1.big) builtins refl name t is) in absurd cc
 
 -- ---- searching the table, row by row
 

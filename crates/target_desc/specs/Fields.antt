@@ -33,6 +33,10 @@ abbrev pub section_word : Bool → List ℕ
 section_word true = codes "section"
 section_word false = codes "locks"
 
+-- the word after these, which stands only where `big` holds
+abbrev pub big_words : Bool → List (List ℕ)
+big_words big = with_word big (codes "big") []
+
 -- ---- what the words stand for
 
 abbrev pub bits_of : List ℕ → Option ℕ
@@ -67,3 +71,7 @@ abbrev pub section_of : Bool → StepSet → ℕ → List ℕ → Option Bool
 section_of packed steps locks w = if bytes_eq w (codes "locks") then Some false
     else if bytes_eq w (codes "section") && suits_section packed steps locks then Some true
     else None
+
+-- `big` only where the target is packed
+abbrev pub big_of : Bool → Option Bool
+big_of packed = if packed then Some true else None

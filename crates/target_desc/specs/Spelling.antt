@@ -1,7 +1,7 @@
--- The words that say a target, without a reader: a name, or the five words of a description.
+-- The words that say a target, without a reader: a name, or the words of a description.
 use Rattle.std.specs.Prelude.{◌≡◌, ◌⊎◌, ℕ, List, [], ◌∷◌}
 use Rattle.target_desc.specs.declared.target.Target.{Target}
-use Rattle.target_desc.specs.Target.{IsTarget, builtins}
+use Rattle.target_desc.specs.Target.{IsTarget, IsOfVersion, builtins}
 use Rattle.target_desc.specs.Text.{description_words}
 
 -- a word and what it stands for are a row of the table
@@ -13,6 +13,6 @@ HasRow (row ∷ rows) w x = ((w ≡ row.0) × (x ≡ row.1)) ⊎ HasRow rows w x
 abbrev pub IsName : List ℕ → Target → Type 0
 IsName name t = HasRow builtins name t
 
--- one word is a name, and five words are the description
-abbrev pub IsTargetText : List (List ℕ) → Target → Type 0
-IsTargetText words t = ((name : List ℕ) × (words ≡ name ∷ []) × IsName name t) ⊎ (IsTarget t × (words ≡ description_words t))
+-- one word is a name, and more are the description, which says `big` only in version 2
+abbrev pub IsTargetText : ℕ → List (List ℕ) → Target → Type 0
+IsTargetText version words t = ((name : List ℕ) × (words ≡ name ∷ []) × IsName name t) ⊎ (IsTarget t × IsOfVersion version t × (words ≡ description_words t))

@@ -24,6 +24,17 @@ pub record IsTarget (t : Target) : Type 0 where
   pub some : 1 ≤ t.locks
   pub most : t.locks ≤ most_locks
   pub section : t.section ≡ true → IsSection t
+  pub big : t.big ≡ true → t.packed ≡ true
+
+-- ---- versions of descriptions
+
+-- a description is of version 1 or 2
+abbrev pub IsVersion : ℕ → Type 0
+IsVersion version = (version ≡ 1) ⊎ (version ≡ 2)
+
+-- only version 2 can say `big`
+abbrev pub IsOfVersion : ℕ → Target → Type 0
+IsOfVersion version t = t.big ≡ true → version ≡ 2
 
 -- ---- tests
 
@@ -35,7 +46,7 @@ abbrev pub same_steps : StepSet → StepSet → Bool
 same_steps a b = same_bool a.swap b.swap && (same_bool a.add b.add && (same_bool a.bits b.bits && same_bool a.order b.order))
 
 abbrev pub same_target : Target → Target → Bool
-same_target s t = (s.word_bits == t.word_bits) && (same_bool s.packed t.packed && (same_steps s.steps t.steps && ((s.locks == t.locks) && same_bool s.section t.section)))
+same_target s t = (s.word_bits == t.word_bits) && (same_bool s.packed t.packed && (same_steps s.steps t.steps && ((s.locks == t.locks) && (same_bool s.section t.section && same_bool s.big t.big))))
 
 abbrev pub suits_section : Bool → StepSet → ℕ → Bool
 suits_section packed steps locks = not packed && same_steps steps no_steps && (locks == 1)
@@ -44,11 +55,11 @@ suits_section packed steps locks = not packed && same_steps steps no_steps && (l
 
 -- each with its name
 abbrev pub builtins : List (List ℕ × Target)
-builtins = (codes "full64", record { word_bits = 64; packed = false; steps = all_steps; locks = most_locks; section = false })
-    ∷ (codes "word64", record { word_bits = 64; packed = true; steps = all_steps; locks = most_locks; section = false })
-    ∷ (codes "word32", record { word_bits = 32; packed = true; steps = all_steps; locks = most_locks; section = false })
-    ∷ (codes "cas32", record { word_bits = 32; packed = true; steps = no_steps; locks = most_locks; section = false })
-    ∷ (codes "section32", record { word_bits = 32; packed = false; steps = no_steps; locks = 1; section = true })
+builtins = (codes "full64", record { word_bits = 64; packed = false; steps = all_steps; locks = most_locks; section = false; big = false })
+    ∷ (codes "word64", record { word_bits = 64; packed = true; steps = all_steps; locks = most_locks; section = false; big = false })
+    ∷ (codes "word32", record { word_bits = 32; packed = true; steps = all_steps; locks = most_locks; section = false; big = false })
+    ∷ (codes "cas32", record { word_bits = 32; packed = true; steps = no_steps; locks = most_locks; section = false; big = false })
+    ∷ (codes "section32", record { word_bits = 32; packed = false; steps = no_steps; locks = 1; section = true; big = false })
     ∷ []
 
 -- the target with a name

@@ -1,7 +1,7 @@
 //! The words of a description, each both ways.
 
 ghost use Rattle.std.specs.Prelude.{◌≡◌};
-ghost use Rattle.target_desc.specs.Fields.{bits_of, packed_of, packed_word, steps_of, steps_word, locks_of, section_of, section_word};
+ghost use Rattle.target_desc.specs.Fields.{bits_of, packed_of, packed_word, steps_of, steps_word, locks_of, section_of, section_word, big_of};
 
 use crate::target::suits_section;
 use op_table::{Class, Kind, MOST_LOCKS, StepSet, Width, read_value};
@@ -149,4 +149,11 @@ pub(crate) fn section_word(section: bool) -> &'static str
     ensures { result.now ≡ section_word section }
 {
     if section { "section" } else { "locks" }
+}
+
+/// Word 6, `big`, which only a packed target may have.
+pub(crate) fn big_of(packed: bool) -> Option<bool>
+    ensures { result ≡ big_of packed }
+{
+    if packed { Some(true) } else { None }
 }

@@ -1,13 +1,13 @@
 //! Laws of targets and their texts, for callers to cite.
 
-ghost use Rattle.target_desc.specs.Laws.{PrintedIsRead, ReadIsTarget, ReadingIsSpelling, SpellsOne, BuiltinIsName, NamedIsTarget, NameIsPrinted, DescriptionIsPrinted, TextIsShort, TextIsPrintable, WordsArePlain, TextHasWords};
+ghost use Rattle.target_desc.specs.Laws.{PrintedIsRead, ReadIsTarget, ReadingIsSpelling, SpellsOne, BuiltinIsName, NamedIsTarget, NamedIsOfVersion, NameIsPrinted, DescriptionIsPrinted, TextIsShort, TextIsPrintable, WordsArePlain, TextHasWords};
 
-/// What `push_target` prints of a target is read again as that target.
+/// What `push_target` prints of a target is read again as that target, in a version that the target is of.
 pub fn printed_is_read()
     ensures { PrintedIsRead }
 {}
 
-/// What is read is a target.
+/// What is read is a target, and of the version that it was read in.
 pub fn read_is_target()
     ensures { ReadIsTarget }
 {}
@@ -17,7 +17,7 @@ pub fn reading_is_spelling()
     ensures { ReadingIsSpelling }
 {}
 
-/// Words say one target at most.
+/// Words say one target at most, whatever the version.
 pub fn spells_one()
     ensures { SpellsOne }
 {}
@@ -32,6 +32,11 @@ pub fn named_is_target()
     ensures { NamedIsTarget }
 {}
 
+/// The built-in targets are of each version.
+pub fn named_is_of_version()
+    ensures { NamedIsOfVersion }
+{}
+
 /// A target that has a name is printed as its name.
 pub fn name_is_printed()
     ensures { NameIsPrinted }
@@ -42,7 +47,7 @@ pub fn description_is_printed()
     ensures { DescriptionIsPrinted }
 {}
 
-/// The text of a target has at most 40 bytes.
+/// The text of a target has at most 44 bytes.
 pub fn text_is_short()
     ensures { TextIsShort }
 {}
@@ -57,7 +62,7 @@ pub fn words_are_plain()
     ensures { WordsArePlain }
 {}
 
-/// The words of a target's text are its name, or the five words of its description.
+/// The words of a target's text are its name, or the words of its description.
 pub fn text_has_words()
     ensures { TextHasWords }
 {}

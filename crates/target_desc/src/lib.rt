@@ -8,7 +8,7 @@ mod target;
 mod text;
 
 pub use reading::{TargetFault, read_target, target_at};
-pub use target::{Target, builtin, builtins, target_ok};
+pub use target::{Target, builtin, builtins, is_of_version, target_ok};
 pub use text::{push_description, push_target};
 
 #[cfg(test)]

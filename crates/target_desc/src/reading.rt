@@ -4,9 +4,10 @@ ghost use Rattle.std.specs.Prelude.{◌≡◌, ◌+◌, ◌<◌, ◌^◌, IfOk};
 ghost use Rattle.line_words.specs.Text.{words_of};
 ghost use Rattle.line_words.specs.Cursor.{Cursor};
 ghost use Rattle.line_words.specs.Steps.{Gives};
-ghost use Rattle.target_desc.specs.Reading.{cursor_of, word_at, need_at, end_at, description_at, target_at, reading_of_target};
+ghost use Rattle.target_desc.specs.Reading.{cursor_of, word_at, need_at, end_at, big_word_at, big_at, description_at, target_at, reading_of_target};
+ghost use Rattle.target_desc.specs.Target.{IsTarget, IsVersion, IsOfVersion};
 
-use crate::fields::{bits_of, locks_of, packed_of, section_of, steps_of};
+use crate::fields::{big_of, bits_of, locks_of, packed_of, section_of, steps_of};
 use crate::target::{Target, builtin};
 use line_words::Words;
 use thiserror::Error;
@@ -20,7 +21,7 @@ pub enum TargetFault {
     /// A word is wanting there. Those before it are as they must be.
     #[error("word {word} is missing")]
     Missing { word: u32 },
-    /// A word stands after a whole description.
+    /// A word stands after a whole description, other than `big` after five words in version 2.
     #[error("word {word} is one too many")]
     Extra { word: u32 },
 }
@@ -74,11 +75,38 @@ impl<'a> Rest<'a> {
     }
 }
 
-/// The target that five words describe, of which the first one is taken.
+/// The word `big`, and nothing after it.
+#[tactic(auto, unfolding(crate::specs::Reading::big_word_at))]
+fn big_word(packed: bool, rest: &Rest<'_>) -> Result<bool, TargetFault>
+    requires { rest.now.taken + 2 < 2 ^ 32 }
+    ensures { Gives (λ x. x) result (big_word_at packed (cursor_of rest.now.taken rest.now.text.now)) }
+{
+    let (_, rest) = rest.word()?;
+    let big = rest.need(big_of(packed))?;
+    rest.end()?;
+    Ok(big)
+}
+
+/// Whether `big` follows the five words of a description. Version 1 doesn't know that word.
+#[tactic(auto, unfolding(crate::specs::Reading::big_at, crate::specs::Reading::no_big_at))]
+fn big(version: u32, packed: bool, rest: &Rest<'_>) -> Result<bool, TargetFault>
+    requires { rest.now.taken + 2 < 2 ^ 32 }
+    ensures { Gives (λ x. x) result (big_at version packed (cursor_of rest.now.taken rest.now.text.now)) }
+{
+    match line_words::word_at(rest.text) {
+        Some((word, _)) if version == 2 && word == b"big".as_slice() => big_word(packed, rest),
+        _ => {
+            rest.end()?;
+            Ok(false)
+        }
+    }
+}
+
+/// The target that the words of a description say, of which the first one is taken.
 #[tactic(auto, unfolding(crate::specs::Reading::description_at))]
-fn description(first: &[u8], rest: &Rest<'_>) -> Result<Target, TargetFault>
-    requires { rest.now.taken + 5 < 2 ^ 32 }
-    ensures { Gives (λ x. x) result (description_at first.now (cursor_of rest.now.taken rest.now.text.now)) }
+fn description(version: u32, first: &[u8], rest: &Rest<'_>) -> Result<Target, TargetFault>
+    requires { rest.now.taken + 6 < 2 ^ 32 }
+    ensures { Gives (λ x. x) result (description_at version first.now (cursor_of rest.now.taken rest.now.text.now)) }
 {
     let word_bits = rest.need(bits_of(first))?;
     let (word, rest) = rest.word()?;
@@ -89,42 +117,50 @@ fn description(first: &[u8], rest: &Rest<'_>) -> Result<Target, TargetFault>
     let locks = rest.need(locks_of(word))?;
     let (word, rest) = rest.word()?;
     let section = rest.need(section_of(packed, steps, locks, word))?;
-    rest.end()?;
+    let big = big(version, packed, &rest)?;
     Ok(Target {
         word_bits,
         packed,
         steps,
         locks,
         section,
+        big,
     })
 }
 
 /// The target that the words of a text name or describe, before which so many stand.
 #[tactic(auto, unfolding(crate::specs::Reading::target_at))]
-fn target_after(taken: u32, text: &[u8]) -> Result<Target, TargetFault>
-    requires { taken + 6 < 2 ^ 32 }
-    ensures { Gives (λ x. x) result (target_at (cursor_of taken text.now)) }
+fn target_after(taken: u32, text: &[u8], version: u32) -> Result<Target, TargetFault>
+    requires { taken + 7 < 2 ^ 32 }
+    ensures { Gives (λ x. x) result (target_at version (cursor_of taken text.now)) }
 {
     let (first, rest) = Rest { taken, text }.word()?;
     if line_words::word_at(rest.text).is_none() {
         rest.need(builtin(first))
     } else {
-        description(first, &rest)
+        description(version, first, &rest)
     }
 }
 
-/// The target that the words from a cursor on name or describe. The cursor stays.
-pub fn target_at(words: &Words<'_>) -> Result<Target, TargetFault>
-    ensures { Gives (λ x. x) result (target_at words.now.cursor) }
+/// The target that the words from a cursor on name or describe in version 1 or 2, as `read_target` tells it. The
+/// cursor stays.
+#[tactic(auto, using(crate::proofs::Readings::given_is_target))]
+pub fn target_at(words: &Words<'_>, version: u32) -> Result<Target, TargetFault>
+    requires { IsVersion version }
+    ensures reading { Gives (λ x. x) result (target_at version words.now.cursor) }
+    ensures target { IfOk result (λ t. IsTarget t × IsOfVersion version t) }
 {
-    target_after(words.taken(), words.rest())
+    target_after(words.taken(), words.rest(), version)
 }
 
-/// The target that the part of a line after the word `target` names or describes. Its words count from 2: a name is
-/// word 2, and the words of a description are 2 to 6.
-#[tactic(auto, unfolding(crate::specs::Reading::reading_of_target))]
-pub fn read_target(text: &[u8]) -> Result<Target, TargetFault>
-    ensures { Gives (λ x. x) result (reading_of_target text.now) }
+/// The target that the part of a line after the word `target` names or describes in version 1 or 2. Its words count
+/// from 2: a name is word 2, and the words of a description are 2 to 6. In version 2 a packed target may have word 7,
+/// `big`: any other word there is Extra, and `big` is Bad where the target is apart.
+#[tactic(auto, unfolding(crate::specs::Reading::reading_of_target), using(crate::proofs::Readings::given_is_target))]
+pub fn read_target(text: &[u8], version: u32) -> Result<Target, TargetFault>
+    requires { IsVersion version }
+    ensures reading { Gives (λ x. x) result (reading_of_target version text.now) }
+    ensures target { IfOk result (λ t. IsTarget t × IsOfVersion version t) }
 {
-    target_after(1, text)
+    target_after(1, text, version)
 }

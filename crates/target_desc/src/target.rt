@@ -1,7 +1,7 @@
 //! Targets, and the built-in ones, which have names.
 
 ghost use Rattle.std.specs.Prelude.{◌≡◌, ◌↔◌, IsTrue, MatchOption, Some, None, map};
-ghost use Rattle.target_desc.specs.Target.{IsTarget, suits_section, builtins, builtin_of, same_target, name_of};
+ghost use Rattle.target_desc.specs.Target.{IsTarget, IsOfVersion, suits_section, builtins, builtin_of, same_target, name_of};
 
 use op_table::{MOST_LOCKS, StepSet};
 
@@ -19,6 +19,9 @@ pub struct Target {
     pub locks: u32,
     /// Whether each call is a critical section: nothing else is one step, and there is one lock.
     pub section: bool,
+    /// Whether the lane of the lowest address lies highest in its word, as on a big-endian machine. Only where objects
+    /// share words.
+    pub big: bool,
 }
 
 const NO_STEPS: StepSet = StepSet {
@@ -45,6 +48,7 @@ const BUILTINS: [(&str, Target); 5] = [
             steps: ALL_STEPS,
             locks: MOST_LOCKS,
             section: false,
+            big: false,
         },
     ),
     (
@@ -55,6 +59,7 @@ const BUILTINS: [(&str, Target); 5] = [
             steps: ALL_STEPS,
             locks: MOST_LOCKS,
             section: false,
+            big: false,
         },
     ),
     (
@@ -65,6 +70,7 @@ const BUILTINS: [(&str, Target); 5] = [
             steps: ALL_STEPS,
             locks: MOST_LOCKS,
             section: false,
+            big: false,
         },
     ),
     (
@@ -75,6 +81,7 @@ const BUILTINS: [(&str, Target); 5] = [
             steps: NO_STEPS,
             locks: MOST_LOCKS,
             section: false,
+            big: false,
         },
     ),
     (
@@ -85,6 +92,7 @@ const BUILTINS: [(&str, Target); 5] = [
             steps: NO_STEPS,
             locks: 1,
             section: true,
+            big: false,
         },
     ),
 ];
@@ -96,8 +104,8 @@ pub(crate) fn suits_section(packed: bool, steps: StepSet, locks: u32) -> bool
     !packed && steps == NO_STEPS && locks == 1
 }
 
-/// Whether it is a target: words of 32 or 64 bits, 1 to 67 locks, and with a section nothing packed, no steps and one
-/// lock.
+/// Whether it is a target: words of 32 or 64 bits, 1 to 67 locks, with a section nothing packed, no steps and one
+/// lock, and `big` only where objects are packed.
 pub fn target_ok(target: &Target) -> bool
     ensures { IsTrue result ↔ IsTarget target.now }
 {
@@ -107,7 +115,17 @@ pub fn target_ok(target: &Target) -> bool
     if target.locks < 1 || MOST_LOCKS < target.locks {
         return false;
     }
+    if target.big && !target.packed {
+        return false;
+    }
     !target.section || suits_section(target.packed, target.steps, target.locks)
+}
+
+/// Whether a description of a version, 1 or 2, can say the target: `big` is a word of version 2 only.
+pub fn is_of_version(target: &Target, version: u32) -> bool
+    ensures { IsTrue result ↔ IsOfVersion version target.now }
+{
+    !target.big || version == 2
 }
 
 /// The built-in targets, each with its name.

@@ -1,5 +1,7 @@
 //! Targets and their texts, with values from outside.
 
+ghost use Rattle.target_desc.specs.Target.{IsVersion};
+
 use super::*;
 use line_words::Words;
 use op_table::{LineBuf, StepSet};
@@ -26,6 +28,15 @@ fn target(word_bits: u32, packed: bool, steps: StepSet, locks: u32, section: boo
         steps,
         locks,
         section,
+        big: false,
+    }
+}
+
+/// A packed target whose lowest addresses lie highest.
+fn big(word_bits: u32, steps: StepSet) -> Target {
+    Target {
+        big: true,
+        ..target(word_bits, true, steps, 67, false)
     }
 }
 
@@ -35,7 +46,10 @@ fn has_text(rt: &impl Abort, target: &Target, text: &str) {
     let mut line = LineBuf::new();
     push_target(&mut line, target);
     assert_eq!(rt; line.bytes(), text.as_bytes(), "{text}");
-    assert_eq!(rt; read_target(text.as_bytes()), Ok(*target), "{text}");
+    assert_eq!(rt; read_target(text.as_bytes(), 2), Ok(*target), "{text}");
+    if is_of_version(target, 1) {
+        assert_eq!(rt; read_target(text.as_bytes(), 1), Ok(*target), "{text}");
+    }
 }
 
 #[test]
@@ -69,7 +83,11 @@ fn five_targets_have_names(rt: HostRuntime) {
     ] {
         has_text(&rt, &wanted, name);
         assert_eq!(rt; builtin(name.as_bytes()), Some(wanted), "{name}");
-        assert_eq!(rt; read_target(description.as_bytes()), Ok(wanted), "{name}");
+        assert_eq!(rt;
+            read_target(description.as_bytes(), 1),
+            Ok(wanted),
+            "{name}"
+        );
     }
     for name in [
         "",
@@ -97,6 +115,8 @@ fn other_targets_are_described(rt: HostRuntime) {
             target(32, false, ALL, 66, false),
         ),
         ("32 packed none 10 locks", target(32, true, NONE, 10, false)),
+        ("32 packed none 67 locks big", big(32, NONE)),
+        ("64 packed swap+add+bits+order 67 locks big", big(64, ALL)),
     ] {
         has_text(&rt, &wanted, text);
     }
@@ -140,16 +160,18 @@ fn words_may_have_more_spaces(rt: HostRuntime) {
         "   64  apart swap+add+bits+order   67 locks ",
     ] {
         assert_eq!(rt;
-            read_target(text.as_bytes()),
+            read_target(text.as_bytes(), 1),
             Ok(target(64, false, ALL, 67, false)),
             "{text}"
         );
     }
 }
 
-/// What `read_target` says of a text that gives no target.
-fn fault(rt: &impl Abort, text: &str) -> TargetFault {
-    match read_target(text.as_bytes()) {
+/// What `read_target` says of a text that gives no target in a version.
+fn fault(rt: &impl Abort, text: &str, version: u32) -> TargetFault
+    requires { IsVersion version }
+{
+    match read_target(text.as_bytes(), version) {
         Err(fault) => fault,
         Ok(_) => {
             assert!(rt; false, "a target: {text}");
@@ -194,8 +216,35 @@ fn wrong_words_are_bad_at_their_place(rt: HostRuntime) {
         ("32 apart none 67 section", 6),
         ("64 apart none 1 x y z", 6),
     ] {
-        assert_eq!(rt; fault(&rt, text), TargetFault::Bad { word }, "{text}");
+        assert_eq!(rt; fault(&rt, text, 1), TargetFault::Bad { word }, "{text}");
+        assert_eq!(rt; fault(&rt, text, 2), TargetFault::Bad { word }, "{text}");
     }
+}
+
+#[test]
+fn big_is_a_word_of_version_2(rt: HostRuntime) {
+    for (text, in_second) in [
+        ("64 packed none 1 locks x", TargetFault::Extra { word: 7 }),
+        ("64 packed none 1 locks Big", TargetFault::Extra { word: 7 }),
+        (
+            "64 packed none 1 locks big y",
+            TargetFault::Extra { word: 8 },
+        ),
+        ("32 apart none 67 locks big", TargetFault::Bad { word: 7 }),
+        ("32 apart none 67 locks big x", TargetFault::Bad { word: 7 }),
+        ("32 apart none 1 section big", TargetFault::Bad { word: 7 }),
+    ] {
+        assert_eq!(rt;
+            fault(&rt, text, 1),
+            TargetFault::Extra { word: 7 },
+            "{text}"
+        );
+        assert_eq!(rt; fault(&rt, text, 2), in_second, "{text}");
+    }
+    assert_eq!(rt;
+        fault(&rt, "64 packed none 1 locks big", 1),
+        TargetFault::Extra { word: 7 }
+    );
 }
 
 #[test]
@@ -208,15 +257,21 @@ fn wanting_and_surplus_words_have_a_place(rt: HostRuntime) {
         ("64 packed none 1", 6),
         ("32 apart none 1 ", 6),
     ] {
-        assert_eq!(rt; fault(&rt, text), TargetFault::Missing { word }, "{text}");
+        assert_eq!(rt;
+            fault(&rt, text, 1),
+            TargetFault::Missing { word },
+            "{text}"
+        );
+        assert_eq!(rt;
+            fault(&rt, text, 2),
+            TargetFault::Missing { word },
+            "{text}"
+        );
     }
-    for text in [
-        "64 packed none 1 locks x",
-        "64 packed none 1 locks big y",
-        "32 apart none 1 section section",
-    ] {
-        assert_eq!(rt; fault(&rt, text), TargetFault::Extra { word: 7 }, "{text}");
-    }
+    assert_eq!(rt;
+        fault(&rt, "32 apart none 1 section section", 2),
+        TargetFault::Extra { word: 7 }
+    );
 }
 
 #[test]
@@ -233,6 +288,14 @@ fn targets_have_limits(rt: HostRuntime) {
         (target(64, true, NONE, 1, true), false),
         (target(64, false, ALL, 1, true), false),
         (target(64, false, NONE, 2, true), false),
+        (big(64, ALL), true),
+        (
+            Target {
+                packed: false,
+                ..big(64, ALL)
+            },
+            false,
+        ),
     ] {
         assert_eq!(rt; target_ok(&wanted), ok, "{wanted:?}");
     }
@@ -242,9 +305,9 @@ fn targets_have_limits(rt: HostRuntime) {
 fn a_cursor_gives_its_own_places(rt: HostRuntime) {
     let mut words = Words::after(0, b"target 32 packed none x");
     let _first = words.next();
-    assert_eq!(rt; target_at(&words), Err(TargetFault::Bad { word: 5 }));
+    assert_eq!(rt; target_at(&words, 1), Err(TargetFault::Bad { word: 5 }));
     let words = Words::after(7, b" cas32 ");
-    assert_eq!(rt; target_at(&words), Ok(target(32, true, NONE, 67, false)));
+    assert_eq!(rt; target_at(&words, 1), Ok(target(32, true, NONE, 67, false)));
     let words = Words::after(7, b" cas64 ");
-    assert_eq!(rt; target_at(&words), Err(TargetFault::Bad { word: 8 }));
+    assert_eq!(rt; target_at(&words, 1), Err(TargetFault::Bad { word: 8 }));
 }

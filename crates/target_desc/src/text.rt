@@ -17,7 +17,7 @@ fn push_next(line: &mut LineBuf, word: &str)
     line.push_text(word.as_bytes());
 }
 
-/// Adds the description of a target, at most 40 bytes.
+/// Adds the description of a target, at most 44 bytes.
 pub fn push_description(line: &mut LineBuf, target: &Target)
     requires { length line.old + length (description_text target.now) ≤ 256 }
     ensures { line.new ≡ line.old ++ description_text target.now }
@@ -28,9 +28,12 @@ pub fn push_description(line: &mut LineBuf, target: &Target)
     line.push_text(b" ");
     line.push_number(u64::from(target.locks));
     push_next(line, section_word(target.section));
+    if target.big {
+        push_next(line, "big");
+    }
 }
 
-/// Adds the text of a target, at most 40 bytes: its name where it is a built-in one, else its description.
+/// Adds the text of a target, at most 44 bytes: its name where it is a built-in one, else its description.
 /// `read_target` reads it back.
 #[tactic(auto, using(crate::proofs::Printed::described_short))]
 pub fn push_target(line: &mut LineBuf, target: &Target)

@@ -1,5 +1,5 @@
 -- The replies of a run of a workload are values of their objects' kinds, so they can be reported.
-use Rattle.std.proofs.Common.{◌≡◌, ⊎_elim, ℕ, zero, suc, ◌+◌, ◌<◌, List, [], ◌∷◌, ◌++◌, length, refl, sym, subst, ap, ◌∙◌, arith}
+use Rattle.std.proofs.Common.{◌≡◌, ⊎_elim, inl, inr, ℕ, zero, suc, ◌+◌, ◌<◌, ◌≤◌, List, [], ◌∷◌, ◌++◌, length, refl, sym, subst, ap, ◌∙◌, arith}
 use Rattle.std.specs.Prelude.{Option, Some, slice_get, IsSomeAnd, map}
 use Rattle.std.specs.List.{AllByRecursion}
 use Rattle.std.proofs.lemmas.List.{length-map}
@@ -13,7 +13,7 @@ use Rattle.op_table.specs.Kind.{values_of, IsKind}
 use Rattle.op_table.specs.Call.{after_of, answer_of, CallFits, ReplyFits, IsSpurious, Permits}
 use Rattle.op_table.proofs.Rows.{answer_fits}
 use Rattle.target_desc.specs.declared.target.Target.{Target}
-use Rattle.target_desc.specs.Target.{IsTarget}
+use Rattle.target_desc.specs.Target.{IsTarget, IsVersion}
 use Rattle.place_core.specs.declared.entry.Entry.{Entry}
 use Rattle.place_core.specs.declared.name.Declared.{Declared}
 use Rattle.place_core.specs.declared.places.Object.{Object}
@@ -32,7 +32,9 @@ use Rattle.layout_plan.proofs.LaidObjects.{laid_is_declared, laid_has_cells}
 use Rattle.layout_plan.proofs.Laying.{laid_is_shape}
 use Rattle.ledger_sums.specs.Fixed.{lines_of, fixed_values_of}
 use Rattle.ledger_sums.proofs.Tallying.{length-fixed_from}
-use Rattle.work_lang.specs.Workload.{Workload, IsWork, HasLine, LineFits}
+use Rattle.work_lang.specs.Limits.{limits_of}
+use Rattle.work_lang.specs.Workload.{Workload, threads_of, IsWork, HasLine, LineFits}
+use Rattle.work_lang.proofs.CanonicalSteps.{threads_fit}
 use Rattle.work_lang.specs.Reading.{kind_at}
 use Rattle.report_text.specs.Report.{AnswerLines, AnswerThreads, AnswerObjects, fixed_of}
 use Rattle.report_text.proofs.LineKinds.{kind_read}
@@ -139,29 +141,37 @@ module _ (S : Shape) (objects : List Declared) (kinds : HasKinds S objects) wher
 
 -- ---- a run of a workload
 
+few_of_version : (version : ℕ) → IsVersion version → (limits_of version).objects ≤ 4096
+few_of_version version (inl one) = subst (λ (v : ℕ). (limits_of v).objects ≤ 4096) (sym one) (omega arith)
+few_of_version version (inr two) = subst (λ (v : ℕ). (limits_of v).objects ≤ 4096) (sym two) (omega arith)
+
+-- a workload's objects are few enough for a shape
+few_in_shape : (w : Workload) → IsWork w → length w.objects ≤ 65536
+few_in_shape w work = let most = few_of_version w.version work.version in omega (arith, most, work.few_objects)
+
 -- what a report asks of the replies
 pub record CanReport (w : Workload) (H : List Entry) : Type 0 where
-  pub threads : AnswerThreads w.objects w.threads (replies_from H 1 w.threads)
+  pub threads : AnswerThreads w.objects (threads_of w) (replies_from H 1 (threads_of w))
   pub last : AnswerObjects w.objects (replies_by H 0)
 
-pub can_report : (w : Workload) (H : List Entry) → IsTarget w.target → AreDeclared w.objects → IsWork w → IsLegal (cells_of_shape (shape_of w.target w.objects)) H → FollowScripts H 1 w.threads
+pub can_report : (w : Workload) (H : List Entry) → IsTarget w.target → AreDeclared w.objects → IsWork w → IsLegal (cells_of_shape (shape_of w.target w.objects)) H → FollowScripts H 1 (threads_of w)
     → map made_of (entries_by H 0) ≡ loads_from 0 (cells_of_shape (shape_of w.target w.objects)) → CanReport w H
 can_report w H target declared work legal follow loads =
     let S : Shape = shape_of w.target w.objects in
-    let few = work.few_objects in
-    let ok : IsShape S = laid_is_shape w.target w.objects target declared (omega arith) in
+    let few : length w.objects ≤ 65536 = few_in_shape w work in
+    let ok : IsShape S = laid_is_shape w.target w.objects target declared few in
     let kinds : HasKinds S w.objects = λ o d at. (laid_is_declared w.target w.objects o d at).1 in
     let fits : AllByRecursion (Fits S) H = legal_fits S ok H legal in
     record {
-      threads = answer_threads S w.objects kinds H 1 w.threads fits follow work.lines;
+      threads = answer_threads S w.objects kinds H 1 (threads_of w) fits follow (threads_fit w work);
       last = answer_loads S w.objects kinds 0 w.objects (entries_by H 0) (λ i d at. subst (λ (j : ℕ). slice_get w.objects j ≡ Some d) (omega arith) at)
           (loads ∙ ap (loads_from 0) (laid_has_cells w.target w.objects)) (own_fit (Fits S) H 0 fits);
     }
 
 -- the replies of a run that ended can be reported
-pub threads_answer : (e : Ended) (rs : List (List Reply)) → IsWork e.work → IsRunOf e.work e → rs ≡ replies_from e.root.seen 1 e.work.threads → AnswerThreads e.work.objects e.work.threads rs
+pub threads_answer : (e : Ended) (rs : List (List Reply)) → IsWork e.work → IsRunOf e.work e → rs ≡ replies_from e.root.seen 1 (threads_of e.work) → AnswerThreads e.work.objects (threads_of e.work) rs
 threads_answer e rs work ran same = let run = ran.1.run.run in
-    subst (AnswerThreads e.work.objects e.work.threads) (sym same)
+    subst (AnswerThreads e.work.objects (threads_of e.work)) (sym same)
     (can_report e.work e.root.seen work.target work.objects work run.legal run.scripted run.ends.loads).threads
 
 pub last_answers : (e : Ended) (rs : List Reply) → IsWork e.work → IsRunOf e.work e → rs ≡ replies_by e.root.seen 0 → AnswerObjects e.work.objects rs
@@ -203,18 +213,18 @@ declared_fit ds [] fits = tt
 declared_fit ds (lines ∷ threads) fits = (script_fits ds lines fits.0, declared_fit ds threads fits.1)
 
 -- lines that fit the objects fit the shape that is laid for them
-pub laid_fit : (w : Workload) (S : Shape) (threads : List (List Line)) → S ≡ shape_of w.target w.objects → threads ≡ w.threads
-    → AllByRecursion (AllByRecursion (LineFits w.objects)) w.threads → ScriptsFit (cells_of_shape S) threads
+pub laid_fit : (w : Workload) (S : Shape) (threads : List (List Line)) → S ≡ shape_of w.target w.objects → threads ≡ threads_of w
+    → AllByRecursion (AllByRecursion (LineFits w.objects)) (threads_of w) → ScriptsFit (cells_of_shape S) threads
 laid_fit w S threads laid same fits =
     subst (λ (Z : Shape). ScriptsFit (cells_of_shape Z) threads) (sym laid)
     (subst (λ (cells : List Cell). ScriptsFit cells threads) (sym (laid_has_cells w.target w.objects))
-    (subst (λ (ts : List (List Line)). ScriptsFit (cells_of w.objects) ts) (sym same) (declared_fit w.objects w.threads fits)))
+    (subst (λ (ts : List (List Line)). ScriptsFit (cells_of w.objects) ts) (sym same) (declared_fit w.objects (threads_of w) fits)))
 
 -- ---- fixed values
 
 -- the objects of the shape that is laid have the declared ones' fixed values
 pub laid_fixed : (w : Workload) (S : Shape) (threads : List (List Line)) (fixed : List (Option ℕ))
-    → S ≡ shape_of w.target w.objects → threads ≡ w.threads
+    → S ≡ shape_of w.target w.objects → threads ≡ threads_of w
     → fixed ≡ fixed_values_of (cells_of_shape S) threads → fixed ≡ fixed_of w
 laid_fixed w S threads fixed laid same told =
     told
@@ -224,4 +234,4 @@ laid_fixed w S threads fixed laid same told =
 
 -- there is one for each object
 pub length-fixed_of : (w : Workload) → length (fixed_of w) ≡ length w.objects
-length-fixed_of w = length-fixed_from (lines_of w.threads) 0 (cells_of w.objects) ∙ length-map w.objects cell_of
+length-fixed_of w = length-fixed_from (lines_of (threads_of w)) 0 (cells_of w.objects) ∙ length-map w.objects cell_of

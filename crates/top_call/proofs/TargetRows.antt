@@ -13,7 +13,7 @@ use Rattle.top_call.specs.Texts.{IsRow, target_row}
 pub all_named : AllByRecursion IsRow builtins
 all_named = all_rows IsRow builtins (λ name t is. is)
 
-pub row_is_short : (name : List ℕ) (t : Target) → IsName name t → length name + length (description_text t) ≤ 49
+pub row_is_short : (name : List ℕ) (t : Target) → IsName name t → length name + length (description_text t) ≤ 53
 row_is_short name t is = omega (arith, (name_plain name t is).short, described_short t (named_is_target name t is))
 
 pub named_at : {R : Type 0} (row_of : R → List ℕ × Target) (rows : List R) (i : ℕ) (default : R) → i < length rows → AllByRecursion IsRow (map row_of rows) → IsRow (row_of (get_or rows i default))

@@ -1,4 +1,5 @@
 pub mod Outside
+pub mod CommandLine
 pub mod Commands
 pub mod Codes
 pub mod Inputs

@@ -1,42 +1,52 @@
 -- What writing a text comes to, as a status.
-use Rattle.std.specs.Prelude.{◌≡◌, ℕ, List}
+use Rattle.std.specs.Prelude.{◌≡◌, ℕ, Bool, List, [], ◌∷◌}
 use Rattle.std.specs.declared.option.Option.{Option}
-use Rattle.std.specs.Io.KnownBytes.{Appends}
 use Rattle.work_lang.specs.Faults.{Rose}
-use Rattle.work_lang.specs.Streams.{AppendsFront}
+use Rattle.work_lang.specs.Workload.{Workload}
+use Rattle.top_call.specs.declared.command.Command.{Command}
 use Rattle.top_call.specs.declared.input.Unread.{Unread}
 use Rattle.top_call.specs.declared.input.Unread.TheVariants as unread
 use Rattle.top_call.specs.declared.status.Status.{Status}
 use Rattle.top_call.specs.declared.status.Status.TheVariants.{Done, Refused, Usage, ReadFault, WriteFault, NoMemory}
-use Rattle.top_call.specs.Status.{fault_line}
+use Rattle.top_call.specs.Texts.{IsTold, description_of}
+use Rattle.top_call.specs.Status.{AllTaken, FrontTaken, fault_line}
 
--- all of a text was taken, or a proper prefix of it at a fault, and the count of faults is as it was but there
-abbrev pub Took : {K : Type 0} → (K → Option (List ℕ)) → (K → ℕ) → K → K → List ℕ → Type 0
-Took taken faults old new text = Appends (taken old) (taken new) text × (faults new ≡ faults old)
+-- all of some lines was taken, or a front of them at a fault, and the count of faults is as it was but there
+abbrev pub Took : {K : Type 0} → (K → Option (List ℕ)) → (K → ℕ) → K → K → List (List ℕ) → Type 0
+Took taken faults old new lines = AllTaken (taken old) (taken new) lines × (faults new ≡ faults old)
 
-abbrev pub TookFront : {K : Type 0} → (K → Option (List ℕ)) → (K → ℕ) → K → K → List ℕ → Type 0
-TookFront taken faults old new text = AppendsFront (taken old) (taken new) text × Rose (faults old) (faults new)
+abbrev pub TookFront : {K : Type 0} → (K → Option (List ℕ)) → (K → ℕ) → (K → Bool) → K → K → List (List ℕ) → Type 0
+TookFront taken faults whole old new lines = FrontTaken (whole old) (taken old) (taken new) lines × Rose (faults old) (faults new)
 
--- a text of the command's own
-abbrev pub WritesOwn : {K : Type 0} → (K → Option (List ℕ)) → (K → ℕ) → K → K → List ℕ → Status → Type 0
-WritesOwn taken faults old new text Done = Took taken faults old new text
-WritesOwn taken faults old new text Refused = ⊥
-WritesOwn taken faults old new text Usage = ⊥
-WritesOwn taken faults old new text ReadFault = ⊥
-WritesOwn taken faults old new text WriteFault = TookFront taken faults old new text
-WritesOwn taken faults old new text NoMemory = new ≡ old
+-- the command's own lines
+abbrev pub WritesOwn : {K : Type 0} → (K → Option (List ℕ)) → (K → ℕ) → (K → Bool) → K → K → List (List ℕ) → Status → Type 0
+WritesOwn taken faults whole old new lines Done = Took taken faults old new lines
+WritesOwn taken faults whole old new lines Refused = ⊥
+WritesOwn taken faults whole old new lines Usage = ⊥
+WritesOwn taken faults whole old new lines ReadFault = ⊥
+WritesOwn taken faults whole old new lines WriteFault = TookFront taken faults whole old new lines
+WritesOwn taken faults whole old new lines NoMemory = new ≡ old
+
+-- the command's description of the workload that was read
+abbrev pub WritesTold : {K : Type 0} → (K → Option (List ℕ)) → (K → ℕ) → (K → Bool) → K → K → Command → Workload → Status → Type 0
+WritesTold taken faults whole old new command w Done = (told : Workload) × IsTold command w told × Took taken faults old new (description_of command told)
+WritesTold taken faults whole old new command w Refused = ⊥
+WritesTold taken faults whole old new command w Usage = ⊥
+WritesTold taken faults whole old new command w ReadFault = ⊥
+WritesTold taken faults whole old new command w WriteFault = (told : Workload) × IsTold command w told × TookFront taken faults whole old new (description_of command told)
+WritesTold taken faults whole old new command w NoMemory = new ≡ old
 
 -- the line of a fault
-abbrev pub WritesFault : {K : Type 0} → (K → Option (List ℕ)) → (K → ℕ) → K → K → List ℕ → Status → Type 0
-WritesFault taken faults old new line Done = ⊥
-WritesFault taken faults old new line Refused = Took taken faults old new line
-WritesFault taken faults old new line Usage = ⊥
-WritesFault taken faults old new line ReadFault = ⊥
-WritesFault taken faults old new line WriteFault = TookFront taken faults old new line
-WritesFault taken faults old new line NoMemory = ⊥
+abbrev pub WritesFault : {K : Type 0} → (K → Option (List ℕ)) → (K → ℕ) → (K → Bool) → K → K → List (List ℕ) → Status → Type 0
+WritesFault taken faults whole old new lines Done = ⊥
+WritesFault taken faults whole old new lines Refused = Took taken faults old new lines
+WritesFault taken faults whole old new lines Usage = ⊥
+WritesFault taken faults whole old new lines ReadFault = ⊥
+WritesFault taken faults whole old new lines WriteFault = TookFront taken faults whole old new lines
+WritesFault taken faults whole old new lines NoMemory = ⊥
 
 -- why there is no workload
-abbrev pub TellsUnread : {K : Type 0} → (K → Option (List ℕ)) → (K → ℕ) → K → K → Unread → Status → Type 0
-TellsUnread taken faults old new unread.Source status = (status ≡ ReadFault) × (new ≡ old)
-TellsUnread taken faults old new (unread.Text line word cause) status = WritesFault taken faults old new (fault_line line word cause) status
-TellsUnread taken faults old new unread.NoMemory status = (status ≡ NoMemory) × (new ≡ old)
+abbrev pub TellsUnread : {K : Type 0} → (K → Option (List ℕ)) → (K → ℕ) → (K → Bool) → K → K → Unread → Status → Type 0
+TellsUnread taken faults whole old new unread.Source status = (status ≡ ReadFault) × (new ≡ old)
+TellsUnread taken faults whole old new (unread.Text line word cause) status = WritesFault taken faults whole old new (fault_line line word cause ∷ []) status
+TellsUnread taken faults whole old new unread.NoMemory status = (status ≡ NoMemory) × (new ≡ old)

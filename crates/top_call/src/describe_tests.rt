@@ -11,6 +11,8 @@ use std::test::Fail;
 use std::thread::Threads;
 use work_lang::{MemSink, MemSource, Source};
 
+mod second;
+
 /// What a command on a text came to: its status, what was written, and how many bytes were left.
 #[derive(Drop)]
 struct Ended {
@@ -80,11 +82,11 @@ fn tells_the_targets(rt: HostRuntime) -> Result<(), Fail> {
     assert_eq!(rt; ended.status, Status::Done);
     assert_eq!(rt; ended.text.as_str(), TARGETS);
     assert_eq!(rt; ended.left, 9);
-    let stopped = called(&rt, rt.alloc(), "targets", "", &[2])?;
+    let stopped = called(&rt, rt.alloc(), "targets", "", &[3])?;
     assert_eq!(rt; stopped.status, Status::WriteFault);
     assert_eq!(rt;
         stopped.text.as_str(),
-        "full64 64 apart swap+add+bits+order 67 locks\n"
+        "full64 64 apart swap+add+bits+order 67 locks\nword64 64 packed swap+add+bits+order 67 locks\n"
     );
     Ok(())
 }
@@ -113,7 +115,7 @@ const WIDE: &str = "work 1\ntarget cas32\nobject u u32 0\nobject g u64 0\n";
 fn plans_words_and_parts(rt: HostRuntime) -> Result<(), Fail> {
     let ended = called(&rt, rt.alloc(), "plan", WIDE, &[])?;
     assert_eq!(rt; ended.status, Status::Done);
-    assert_eq!(rt; ended.text.lines().count(), 53);
+    assert_eq!(rt; ended.text.lines().count(), 65);
     let head = "target cas32
 u u32 address 0 word 0 shift 32 lock_free true
 u load one
@@ -232,8 +234,9 @@ fn each_form_refuses(rt: HostRuntime) -> Result<(), Fail> {
         "run",
         "check",
         "plan",
+        "convert",
         "run --target cas32",
-        "plan --target cas32",
+        "plan --target=cas32",
     ] {
         let ended = called(
             &rt,
@@ -256,6 +259,7 @@ fn each_form_needs_its_text(rt: HostRuntime) -> Result<(), Fail> {
         "run",
         "check",
         "plan",
+        "convert",
         "run --target cas32",
         "plan --target cas32",
     ] {
@@ -276,12 +280,51 @@ fn each_form_stops_where_a_write_fails(rt: HostRuntime) -> Result<(), Fail> {
         ("run", "target cas32\n"),
         ("run --target full64", "target full64\n"),
         ("check", "work 1\n"),
+        ("convert", "work 2\n"),
         ("plan", "target cas32\n"),
         ("plan --target word32", "target word32\n"),
     ] {
         let ended = called(&rt, rt.alloc(), line, WIDE, &[2])?;
         assert_eq!(rt; ended.status, Status::WriteFault, "{line}");
         assert_eq!(rt; ended.text.as_str(), first, "{line}");
+    }
+    Ok(())
+}
+
+/// What is read of a text whose last lines are missing: the fault, where it has one.
+#[test]
+fn a_cut_text_is_told(rt: HostRuntime) -> Result<(), Fail> {
+    let lines = [
+        "work 1\n",
+        "target full64\n",
+        "object n u64 0\n",
+        "thread\n",
+        "n fetch_add 5\n",
+        "n load\n",
+        "end\n",
+    ];
+    let told = [
+        "line 0 word 0 Missing\n",
+        "line 1 word 0 Missing\n",
+        "",
+        "",
+        "line 4 word 0 Unclosed\n",
+        "line 5 word 0 Unclosed\n",
+        "line 6 word 0 Unclosed\n",
+        "",
+    ];
+    let mut text = String::new(rt.alloc());
+    for (count, fault) in told.iter().enumerate() {
+        let ended = called(&rt, rt.alloc(), "check", &text, &[])?;
+        let (status, whole) = match fault.is_empty() {
+            true => (Status::Done, text.as_str()),
+            false => (Status::Refused, *fault),
+        };
+        assert_eq!(rt; ended.status, status, "at {count} lines");
+        assert_eq!(rt; ended.text.as_str(), whole, "at {count} lines");
+        if let Some(line) = lines.get(count) {
+            text.push_str(line)?;
+        }
     }
     Ok(())
 }
@@ -294,7 +337,9 @@ fn describing_runs_nothing(rt: HostRuntime) -> Result<(), Fail> {
         ("run --target full64", Status::Usage),
         ("checks", Status::Usage),
         ("check", Status::Done),
+        ("convert", Status::Done),
         ("plan", Status::Done),
+        ("many 7 1 0", Status::Usage),
         ("targets", Status::Done),
     ] {
         let words = words_of(alloc, line)?;

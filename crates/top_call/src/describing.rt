@@ -1,12 +1,12 @@
 //! What the commands write that describe and don't run.
 
-ghost use Rattle.std.specs.Prelude.{◌≡◌, true, [], ◌∷◌, map};
+ghost use Rattle.std.specs.Prelude.{◌≡◌, Some, true, [], ◌∷◌, map};
 ghost use Rattle.std.specs.List.{AllByRecursion};
 ghost use Rattle.target_desc.specs.Spelling.{IsName};
 ghost use Rattle.work_lang.specs.Streams.{Writes};
-ghost use Rattle.top_call.specs.Commands.{reads, described_by, HasTarget, IsTargetAsked};
-ghost use Rattle.top_call.specs.Texts.{IsRow, on_target, description_of, target_row, targets_lines, targets_text};
-ghost use Rattle.top_call.specs.Writing.{WritesOwn, TellsUnread};
+ghost use Rattle.top_call.specs.Commands.{reads, described_by, IsAsked, IsTargetAsked};
+ghost use Rattle.top_call.specs.Texts.{IsRow, on_target, description_of, target_row, targets_lines};
+ghost use Rattle.top_call.specs.Writing.{WritesOwn, WritesTold, TellsUnread};
 
 use crate::command::Command;
 use crate::faults::write_fault;
@@ -17,7 +17,7 @@ use lock_free_info::write_plan;
 use op_table::{LineBuf, NoMemory};
 use std::alloc::Global;
 use target_desc::{Target, builtins, push_description};
-use work_lang::{Sink, Work, WriteEnd, print_work, write_all};
+use work_lang::{Sink, Work, WriteEnd, print_work, to_second, write_line};
 
 /// The workload on the target that is asked for, if one is.
 pub(crate) fn on_target(work: Work, target: Option<Target>) -> Work
@@ -31,9 +31,8 @@ pub(crate) fn on_target(work: Work, target: Option<Target>) -> Work
 }
 
 /// Writes the canonical text of a workload.
-#[tactic(auto, unfolding(work_lang::specs::Canonical::canonical_text))]
 fn check_work<K: Sink>(work: &Work, sink: &mut K) -> Status
-    ensures { WritesOwn K.taken K.faults sink.old sink.new (description_of Command.Check work.now) result }
+    ensures { WritesOwn K.taken K.faults K.whole sink.old sink.new (description_of Command.Check work.now) result }
 {
     match print_work(work, sink) {
         Ok(()) => Status::Done,
@@ -42,9 +41,8 @@ fn check_work<K: Sink>(work: &Work, sink: &mut K) -> Status
 }
 
 /// Writes the plan table of a workload.
-#[tactic(auto, unfolding(lock_free_info::specs::PlanTable::plan_table))]
 fn plan_work<K: Sink>(alloc: Global, work: &Work, sink: &mut K) -> Status
-    ensures { WritesOwn K.taken K.faults sink.old sink.new (description_of (Command.Plan None) work.now) result }
+    ensures { WritesOwn K.taken K.faults K.whole sink.old sink.new (description_of (Command.Plan None) work.now) result }
 {
     match lay(alloc, work.target(), work.objects()) {
         Err(NoMemory) => Status::NoMemory,
@@ -55,6 +53,19 @@ fn plan_work<K: Sink>(alloc: Global, work: &Work, sink: &mut K) -> Status
     }
 }
 
+/// Writes the canonical text of a workload in version 2.
+fn convert_work<K: Sink>(alloc: Global, work: Work, sink: &mut K) -> Status
+    ensures { WritesTold K.taken K.faults K.whole sink.old sink.new Command.Convert work result }
+{
+    match to_second(alloc, work) {
+        Ok(second) => match print_work(&second, sink) {
+            Ok(()) => Status::Done,
+            Err(WriteEnd::Fault) => Status::WriteFault,
+        },
+        Err((_, NoMemory)) => Status::NoMemory,
+    }
+}
+
 /// Writes the command's description of a workload.
 pub(crate) fn describe_work<K: Sink>(
     alloc: Global,
@@ -62,15 +73,16 @@ pub(crate) fn describe_work<K: Sink>(
     work: Work,
     sink: &mut K,
 ) -> Status
-    requires describes { described_by command ≡ Ok command }
+    requires describes { described_by command ≡ Some command }
     requires reads { reads command ≡ true }
-    requires target { HasTarget command }
-    ensures { WritesOwn K.taken K.faults sink.old sink.new (description_of command work) result }
+    requires asked { IsAsked command }
+    ensures { WritesTold K.taken K.faults K.whole sink.old sink.new command work result }
 {
     match command {
         Command::Check => check_work(&work, sink),
+        Command::Convert => convert_work(alloc, work, sink),
         Command::Plan { target } => plan_work(alloc, &on_target(work, target), sink),
-        Command::Run { .. } | Command::Targets => unreachable!(),
+        Command::Run { .. } | Command::Targets | Command::Many { .. } => unreachable!(),
     }
 }
 
@@ -78,20 +90,20 @@ pub(crate) fn describe_work<K: Sink>(
 #[tactic(auto, using(crate::proofs::TargetRows::row_is_short))]
 fn write_row<K: Sink>(name: &str, target: &Target, sink: &mut K) -> Result<(), WriteEnd>
     requires { IsName name.now target.now }
-    ensures { Writes K.taken K.faults sink.old sink.new result (target_row (name.now, target.now) ∷ []) }
+    ensures { Writes K.taken K.faults K.whole sink.old sink.new result (target_row (name.now, target.now) ∷ []) }
 {
     let mut line = LineBuf::new();
     line.push_text(name.as_bytes());
     line.push_text(b" ");
     push_description(&mut line, target);
     line.push_text(b"\n");
-    write_all(line.bytes(), sink)
+    write_line(line.bytes(), sink)
 }
 
 /// Writes built-in targets, each as its name and its description.
 fn write_rows<K: Sink>(rows: &[(&str, Target)], sink: &mut K) -> Result<(), WriteEnd>
     requires { AllByRecursion IsRow (map (λ row. (row.0.now, row.1)) rows.now) }
-    ensures { Writes K.taken K.faults sink.old sink.new result
+    ensures { Writes K.taken K.faults K.whole sink.old sink.new result
         (map target_row (map (λ row. (row.0.now, row.1)) rows.now)) }
 {
     for row in rows {
@@ -105,15 +117,14 @@ fn write_rows<K: Sink>(rows: &[(&str, Target)], sink: &mut K) -> Result<(), Writ
 
 /// Writes all built-in targets.
 fn write_targets<K: Sink>(sink: &mut K) -> Result<(), WriteEnd>
-    ensures { Writes K.taken K.faults sink.old sink.new result targets_lines }
+    ensures { Writes K.taken K.faults K.whole sink.old sink.new result targets_lines }
 {
     write_rows(builtins(), sink)
 }
 
 /// Writes the text of the built-in targets.
-#[tactic(auto, unfolding(crate::specs::Texts::targets_text))]
 pub(crate) fn tell_targets<K: Sink>(sink: &mut K) -> Status
-    ensures { WritesOwn K.taken K.faults sink.old sink.new targets_text result }
+    ensures { WritesOwn K.taken K.faults K.whole sink.old sink.new targets_lines result }
 {
     match write_targets(sink) {
         Ok(()) => Status::Done,
@@ -123,7 +134,7 @@ pub(crate) fn tell_targets<K: Sink>(sink: &mut K) -> Status
 
 /// Tells why there is no workload: the fault of a text is written as one line.
 pub(crate) fn tell_unread<K: Sink>(unread: Unread, sink: &mut K) -> Status
-    ensures { TellsUnread K.taken K.faults sink.old sink.new unread result }
+    ensures { TellsUnread K.taken K.faults K.whole sink.old sink.new unread result }
 {
     match unread {
         Unread::Source => Status::ReadFault,

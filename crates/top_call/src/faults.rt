@@ -6,7 +6,7 @@ ghost use Rattle.work_lang.specs.Streams.{Writes};
 ghost use Rattle.top_call.specs.Status.{cause_text, fault_line};
 
 use op_table::LineBuf;
-use work_lang::{Cause, Sink, WriteEnd, write_all};
+use work_lang::{Cause, Sink, WriteEnd, write_line};
 
 /// The name of a cause.
 fn cause_text(cause: Cause) -> &'static [u8]
@@ -48,7 +48,7 @@ pub fn write_fault<K: Sink>(
     cause: Cause,
     sink: &mut K,
 ) -> Result<(), WriteEnd>
-    ensures { Writes K.taken K.faults sink.old sink.new result (fault_line line word cause ∷ []) }
+    ensures { Writes K.taken K.faults K.whole sink.old sink.new result (fault_line line word cause ∷ []) }
 {
     let mut out = LineBuf::new();
     out.push_text(b"line ");
@@ -58,5 +58,5 @@ pub fn write_fault<K: Sink>(
     out.push_text(b" ");
     out.push_text(cause_text(cause));
     out.push_text(b"\n");
-    write_all(out.bytes(), sink)
+    write_line(out.bytes(), sink)
 }

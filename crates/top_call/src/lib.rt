@@ -3,11 +3,13 @@
 #![tactic(auto)]
 
 mod command;
+mod command_line;
 mod describing;
 mod faults;
 mod input;
 mod outcome;
 mod real;
+mod run_text;
 mod running;
 mod status;
 mod top;
@@ -22,6 +24,10 @@ pub use top::{describe, portable_call};
 mod describe_tests;
 #[cfg(test)]
 mod edge_tests;
+#[cfg(test)]
+mod many_tests;
+#[cfg(test)]
+mod real_tests;
 #[cfg(test)]
 mod run_tests;
 #[cfg(test)]

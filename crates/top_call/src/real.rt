@@ -1,16 +1,44 @@
 //! Readers and writers of std as a source and a sink: the edge that is trusted.
 
-ghost use Rattle.std.specs.Prelude.{◌≡◌, [], OnOk, IfOk};
+ghost use Rattle.std.specs.Prelude.{◌≡◌, ◌<◌, ◌≤◌, false, [], length, IfOk};
+ghost use Rattle.std.specs.Io.{ReadsAtMost, WritesAtMost};
 ghost use Rattle.std.specs.Io.Buffered.{writer_contents, writer_buffer, writer_inner};
-ghost use Rattle.std.specs.Io.KnownBytes.{Keeps};
-ghost use Rattle.work_lang.specs.Faults.{Rose, HasCause};
+ghost use Rattle.std.specs.Io.KnownBytes.{Keeps, ReadConsumes, WriteAppends};
+ghost use Rattle.work_lang.specs.Faults.{last_count, HasCause};
 
 use op_table::NoMemory;
 use std::alloc::Global;
-use std::io::{BufWriter, Read, Write};
+use std::io::{BufWriter, ErrorKind, Read, Write};
 use work_lang::{Failed, Sink, Source};
 
-/// A reader as a source. It tells the bytes that the reader tells: those of a slice, and none of standard input.
+/// The count of faults after an answer: one more where it is Failed.
+fn count_after(faults: u64, answer: &Result<usize, Failed>) -> u64
+    ensures cause { HasCause faults result answer.now }
+    ensures counted { result ≤ last_count }
+{
+    match answer {
+        Ok(_) => faults,
+        Err(_) => faults.saturating_add(1),
+    }
+}
+
+/// Reads from a reader. A read that is interrupted is made again.
+fn read_again<R: Read + Drop>(reader: &mut R, buffer: &mut [u8]) -> Result<usize, Failed>
+    ensures bound { ReadsAtMost result buffer.new }
+    ensures bytes { ReadConsumes (R.remaining reader.old) (R.remaining reader.new) result buffer.new }
+{
+    'tries: for _ in 0..u64::MAX {
+        match reader.read(buffer) {
+            Ok(count) => return Ok(count),
+            Err(error) if error.kind() == ErrorKind::Interrupted => {}
+            Err(_) => return Err(Failed),
+        }
+    }
+    Err(Failed)
+}
+
+/// A reader as a source. It tells the bytes that the reader tells: those of a slice, and none of standard input. A read
+/// that is interrupted is made again.
 #[derive(Drop)]
 pub struct ReadSource<R: Read + Drop> {
     reader: R,
@@ -33,26 +61,51 @@ impl<R: Read + Drop> Source for ReadSource<R> {
     ghost faults = { λ s. s.faults };
 
     fn read(&mut self, buffer: &mut [u8]) -> Result<usize, Failed> {
-        let failed = self.faults.saturating_add(1);
-        match self.reader.read(buffer) {
-            Ok(count) => Ok(count),
-            Err(_) => {
-                self.faults = failed;
-                Err(Failed)
-            }
-        }
+        let answer = read_again(&mut self.reader, buffer);
+        self.faults = count_after(self.faults, &answer);
+        answer
     }
 }
 
 /// How many bytes are handed on at a time.
 const BUFFER_SIZE: usize = 65_536;
 
+/// Writes to a writer: Failed where that fails or takes nothing. A write that is interrupted is made again.
+fn write_again<W: Write + Drop>(writer: &mut BufWriter<W>, piece: &[u8]) -> Result<usize, Failed>
+    ensures bound { WritesAtMost result piece.now }
+    ensures progress { IfOk result (λ n. 0 < length piece.now → 0 < n) }
+    ensures bytes { WriteAppends (writer_contents W.contents writer.old) (writer_contents W.contents writer.new) result piece.now }
+{
+    'tries: for _ in 0..u64::MAX {
+        match writer.write(piece) {
+            Ok(count) if count > 0 || piece.is_empty() => return Ok(count),
+            Err(error) if error.kind() == ErrorKind::Interrupted => {}
+            _ => return Err(Failed),
+        }
+    }
+    Err(Failed)
+}
+
 /// A writer as a sink, behind a buffer of 64 KiB. It tells the bytes that the writer tells, with those of the buffer: those
-/// of a vector, and none of standard output.
+/// of a vector, and none of standard output. A write that is interrupted is made again.
 #[derive(Drop)]
 pub struct WriteSink<W: Write + Drop> {
     writer: BufWriter<W>,
     faults: u64,
+}
+
+/// Tells a writer that no more bytes come. Where that is interrupted it is told again.
+fn finish<W: Write + Drop>(mut writer: W) -> Result<W, Failed>
+    ensures { IfOk result (λ w. Keeps (W.contents writer) (W.contents w)) }
+{
+    'tries: for _ in 0..u64::MAX {
+        match writer.flush() {
+            Ok(()) => return Ok(writer),
+            Err(error) if error.kind() == ErrorKind::Interrupted => {}
+            Err(_) => return Err(Failed),
+        }
+    }
+    Err(Failed)
 }
 
 impl<W: Write + Drop> WriteSink<W> {
@@ -68,17 +121,16 @@ impl<W: Write + Drop> WriteSink<W> {
         }
     }
 
-    /// Hands on what the buffer holds, and loses none of it. Failed comes only where the count of faults rises.
-    pub fn flush(&mut self) -> Result<(), Failed>
-        ensures cause { HasCause self.old.faults self.new.faults result }
-        ensures bytes { Keeps (writer_contents W.contents self.old.writer) (writer_contents W.contents self.new.writer) }
-        ensures empty { OnOk result (writer_buffer self.new.writer ≡ []) }
+    /// Ends the sink: hands on what the buffer holds, and gives the writer back, with all the bytes that the sink took.
+    /// Failed where the writer failed; what it didn't take then is let go, and not handed on later.
+    pub fn close(self) -> Result<W, Failed>
+        ensures { IfOk result (λ w. Keeps (writer_contents W.contents self.writer) (W.contents w)) }
     {
-        let failed = self.faults.saturating_add(1);
-        match self.writer.flush() {
-            Ok(()) => Ok(()),
-            Err(_) => {
-                self.faults = failed;
+        match self.writer.into_inner() {
+            Ok(writer) => finish(writer),
+            Err(unwritten) => {
+                // Taken apart, since a buffer that is dropped is written once more.
+                let (_writer, _rest) = unwritten.into_inner().into_parts();
                 Err(Failed)
             }
         }
@@ -90,14 +142,11 @@ impl<W: Write + Drop> Sink for WriteSink<W> {
 
     ghost faults = { λ s. s.faults };
 
+    ghost whole = { λ s. false };
+
     fn write(&mut self, piece: &[u8]) -> Result<usize, Failed> {
-        let failed = self.faults.saturating_add(1);
-        match self.writer.write(piece) {
-            Ok(count) if count > 0 || piece.is_empty() => Ok(count),
-            _ => {
-                self.faults = failed;
-                Err(Failed)
-            }
-        }
+        let answer = write_again(&mut self.writer, piece);
+        self.faults = count_after(self.faults, &answer);
+        answer
     }
 }

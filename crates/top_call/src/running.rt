@@ -1,23 +1,27 @@
-//! Running a workload on an arena, and its report.
+//! Running a workload on an arena, and what is written of it.
 
-ghost use Rattle.std.specs.Prelude.{◌≡◌, map, IfOk};
+ghost use Rattle.std.specs.Prelude.{◌≡◌, true, map, IfOk};
 ghost use Rattle.place_core.specs.Runs.{replies_by, replies_from};
 ghost use Rattle.work_lang.specs.Streams.{Writes};
+ghost use Rattle.work_lang.specs.Workload.{threads_of};
+ghost use Rattle.work_lang.specs.Generated.{many_fits, many_of};
 ghost use Rattle.report_text.specs.Report.{report_lines, fixed_of, items_of};
-ghost use Rattle.top_call.specs.Running.{IsRunOf, RunsWork};
+ghost use Rattle.top_call.specs.declared.run_text.RunText.TheVariants as texts;
+ghost use Rattle.top_call.specs.Running.{IsRunOf, RunsWork, run_lines};
 
 use crate::outcome::{Ended, Outcome};
+use crate::run_text::RunText;
 use crate::status::Status;
 use layout_plan::lay;
 use ledger_sums::{Fixed, fixed_values};
 use op_table::NoMemory;
 use place_core::{Gate, Replies};
-use report_text::report;
+use report_text::{many_text, report};
 use std::alloc::Global;
 use std::sync::Wait;
 use std::thread::Threads;
 use whole_run::run_whole;
-use work_lang::{Sink, Work, WriteEnd};
+use work_lang::{Sink, Work, WriteEnd, make_many};
 
 /// A run that ended, the fixed values that were told before it, the replies of each thread, and those of the last
 /// loads.
@@ -39,18 +43,18 @@ fn run_scripts<R: Threads + Wait + Sync, G: Gate>(
 ) -> Result<Ran, NoMemory>
     ensures run { IfOk result (λ r. IsRunOf work r.ended) }
     ensures fixed { IfOk result (λ r. r.fixed ≡ fixed_of work) }
-    ensures replies { IfOk result (λ r. map items_of r.replies.items ≡ replies_from r.ended.root.seen 1 work.threads) }
+    ensures replies { IfOk result (λ r. map items_of r.replies.items ≡ replies_from r.ended.root.seen 1 (threads_of work)) }
     ensures last { IfOk result (λ r. r.last.items ≡ replies_by r.ended.root.seen 0) }
 {
     let shape = lay(alloc, work.target(), work.objects())?;
     let fixed = fixed_values(alloc, &shape, work.threads())?;
-    let (target, objects, scripts) = work.into_parts();
+    let (version, target, objects, scripts) = work.into_parts();
     let ran = run_whole(rt, alloc, shape, scripts, gate)?;
     Ok(Ran {
         ended: Ended {
             arena: ran.arena,
             root: ran.root,
-            work: Work::of_parts(target, objects, ran.scripts),
+            work: Work::of_parts(version, target, objects, ran.scripts),
         },
         fixed,
         replies: ran.replies,
@@ -62,9 +66,9 @@ fn run_scripts<R: Threads + Wait + Sync, G: Gate>(
 fn write_report<K: Sink>(ran: &Ran, sink: &mut K) -> Result<(), WriteEnd>
     requires run { IsRunOf ran.now.ended.work ran.now.ended }
     requires fixed { ran.now.fixed ≡ fixed_of ran.now.ended.work }
-    requires replies { map items_of ran.now.replies.items ≡ replies_from ran.now.ended.root.seen 1 ran.now.ended.work.threads }
+    requires replies { map items_of ran.now.replies.items ≡ replies_from ran.now.ended.root.seen 1 (threads_of ran.now.ended.work) }
     requires last { ran.now.last.items ≡ replies_by ran.now.ended.root.seen 0 }
-    ensures { Writes K.taken K.faults sink.old sink.new result (report_lines ran.now.ended.work ran.now.ended.root.seen) }
+    ensures { Writes K.taken K.faults K.whole sink.old sink.new result (report_lines ran.now.ended.work ran.now.ended.root.seen) }
 {
     let work = &ran.ended.work;
     // Only for its clause, on what the type of a workload keeps.
@@ -72,22 +76,59 @@ fn write_report<K: Sink>(ran: &Ran, sink: &mut K) -> Result<(), WriteEnd>
     report(work, &ran.fixed, &ran.replies, &ran.last, sink)
 }
 
-/// Runs a workload, a thread for each script, and writes the report of the one history of its arena.
+/// Writes the last values of a run that was generated from these numbers.
+fn write_many<K: Sink>(
+    seed: u64,
+    threads: u32,
+    calls: u32,
+    ran: &Ran,
+    sink: &mut K,
+) -> Result<(), WriteEnd>
+    requires run { IsRunOf ran.now.ended.work ran.now.ended }
+    requires last { ran.now.last.items ≡ replies_by ran.now.ended.root.seen 0 }
+    ensures { Writes K.taken K.faults K.whole sink.old sink.new result (run_lines (texts.Many seed threads calls) ran.now.ended.work ran.now.ended.root.seen) }
+{
+    let work = &ran.ended.work;
+    // Only for its clause, on what the type of a workload keeps.
+    let _target = work.target();
+    many_text(seed, threads, calls, work, &ran.last, sink)
+}
+
+/// Writes what is to be told of a run.
+fn write_run<K: Sink>(text: RunText, ran: &Ran, sink: &mut K) -> Result<(), WriteEnd>
+    requires run { IsRunOf ran.now.ended.work ran.now.ended }
+    requires fixed { ran.now.fixed ≡ fixed_of ran.now.ended.work }
+    requires replies { map items_of ran.now.replies.items ≡ replies_from ran.now.ended.root.seen 1 (threads_of ran.now.ended.work) }
+    requires last { ran.now.last.items ≡ replies_by ran.now.ended.root.seen 0 }
+    ensures { Writes K.taken K.faults K.whole sink.old sink.new result (run_lines text ran.now.ended.work ran.now.ended.root.seen) }
+{
+    match text {
+        RunText::Report => write_report(ran, sink),
+        RunText::Many {
+            seed,
+            threads,
+            calls,
+        } => write_many(seed, threads, calls, ran, sink),
+    }
+}
+
+/// Runs a workload, a thread for each script, and writes what is to be told of the one history of its arena.
 pub(crate) fn run_work<R: Threads + Wait + Sync, K: Sink, G: Gate>(
     rt: &R,
     alloc: Global,
     work: Work,
+    text: RunText,
     sink: &mut K,
     gate: &G,
 ) -> Outcome
-    ensures { RunsWork K.taken K.faults sink.old sink.new work result.status result.ended }
+    ensures { RunsWork K.taken K.faults K.whole sink.old sink.new text work result.status result.ended }
 {
     match run_scripts(rt, alloc, work, gate) {
         Err(NoMemory) => Outcome {
             status: Status::NoMemory,
             ended: None,
         },
-        Ok(ran) => match write_report(&ran, sink) {
+        Ok(ran) => match write_run(text, &ran, sink) {
             Ok(()) => Outcome {
                 status: Status::Done,
                 ended: Some(ran.ended),
@@ -96,6 +137,33 @@ pub(crate) fn run_work<R: Threads + Wait + Sync, K: Sink, G: Gate>(
                 status: Status::WriteFault,
                 ended: Some(ran.ended),
             },
+        },
+    }
+}
+
+/// Runs the workload that is generated from these numbers, as any other, and writes its last values.
+pub(crate) fn run_many<R: Threads + Wait + Sync, K: Sink, G: Gate>(
+    rt: &R,
+    alloc: Global,
+    seed: u64,
+    threads: u32,
+    calls: u32,
+    sink: &mut K,
+    gate: &G,
+) -> Outcome
+    requires { many_fits threads calls ≡ true }
+    ensures { RunsWork K.taken K.faults K.whole sink.old sink.new (texts.Many seed threads calls) (many_of seed threads calls) result.status result.ended }
+{
+    let text = RunText::Many {
+        seed,
+        threads,
+        calls,
+    };
+    match make_many(alloc, seed, threads, calls) {
+        Ok(work) => run_work(rt, alloc, work, text, sink, gate),
+        Err(NoMemory) => Outcome {
+            status: Status::NoMemory,
+            ended: None,
         },
     }
 }

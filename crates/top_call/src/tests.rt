@@ -1,6 +1,6 @@
-//! The program over sources and sinks in memory, and each edge once.
+//! The program over sources and sinks in memory.
 
-use crate::real::{ReadSource, WriteSink};
+use crate::command::{Command, read_words};
 use crate::status::Status;
 use crate::top::portable_call;
 use place_core::OpenGate;
@@ -9,6 +9,7 @@ use std::process::Abort;
 use std::sync::Wait;
 use std::test::Fail;
 use std::thread::Threads;
+use target_desc::builtin;
 use work_lang::{MemSink, MemSource, Sink, Source, SureSink, SureSource};
 
 const FIRST: &[u8] = b"work 1\ntarget full64\nobject n u64 0\nthread\nn fetch_add 5\nn load\nend\n";
@@ -75,10 +76,16 @@ fn keeps_the_lines_before_a_write_that_fails(rt: HostRuntime) -> Result<(), Fail
     for (number, end) in [(1, 0), (2, 14), (3, 23), (4, 41), (5, 52), (6, 57)] {
         let mut source = source_of(alloc, FIRST, 4096, &[])?;
         let mut sink = sink_of(alloc, 4096, &[number])?;
-        let status = portable_call(&rt, alloc, &run, &mut source, &mut sink, &OpenGate).status;
-        assert_eq!(rt; status, Status::WriteFault, "at write {number}");
+        let outcome = portable_call(&rt, alloc, &run, &mut source, &mut sink, &OpenGate);
+        assert_eq!(rt; outcome.status, Status::WriteFault, "at write {number}");
+        assert!(rt; outcome.ended.is_some(), "at write {number}");
         assert_eq!(rt; sink.bytes(), &FIRST_REPORT[..end], "at write {number}");
     }
+    let mut source = source_of(alloc, FIRST, 4096, &[])?;
+    let mut sink = sink_of(alloc, 4096, &[7])?;
+    let status = portable_call(&rt, alloc, &run, &mut source, &mut sink, &OpenGate).status;
+    assert_eq!(rt; status, Status::Done);
+    assert_eq!(rt; sink.bytes(), FIRST_REPORT);
     Ok(())
 }
 
@@ -88,7 +95,7 @@ fn tells_the_first_fault(rt: HostRuntime) -> Result<(), Fail> {
     let run = words_of(alloc, &["run"])?;
     let cases: [(&[u8], &[u8]); 4] = [
         (b"", b"line 0 word 0 Missing\n"),
-        (b"work 2\n", b"line 1 word 2 Version\n"),
+        (b"work 3\n", b"line 1 word 2 Version\n"),
         (
             b"work 1\ntarget full64\nobject n u64 12x\n",
             b"line 3 word 4 BadNumber\n",
@@ -112,32 +119,50 @@ fn tells_the_first_fault(rt: HostRuntime) -> Result<(), Fail> {
 fn keeps_nothing_of_a_fault_that_cannot_be_told(rt: HostRuntime) -> Result<(), Fail> {
     let alloc = rt.alloc();
     let run = words_of(alloc, &["run"])?;
-    let mut source = source_of(alloc, b"work 2\n", 4096, &[])?;
+    let text = b"work 1\ntarget word64\nobject a u8 0\nthread\na load release\nend\n";
+    let mut source = source_of(alloc, text, 4096, &[])?;
     let mut sink = sink_of(alloc, 4096, &[1])?;
-    let status = portable_call(&rt, alloc, &run, &mut source, &mut sink, &OpenGate).status;
-    assert_eq!(rt; status, Status::WriteFault);
+    let outcome = portable_call(&rt, alloc, &run, &mut source, &mut sink, &OpenGate);
+    assert_eq!(rt; outcome.status, Status::WriteFault);
+    assert!(rt; outcome.ended.is_none());
     assert_eq!(rt; sink.bytes().len(), 0);
     Ok(())
 }
 
+/// Words that are no form: clap has a fault at them, they name no subcommand, or a value isn't of its form.
 #[test]
 fn refuses_other_words(rt: HostRuntime) -> Result<(), Fail> {
     let alloc = rt.alloc();
-    let cases: [&[&str]; 14] = [
+    let cases: [&[&str]; 29] = [
         &[],
         &[""],
+        &["--"],
+        &["--", "run"],
         &["--help"],
+        &["-h"],
+        &["help"],
+        &["run", "--help"],
         &["RUN"],
         &["run", "run"],
+        &["check", "targets"],
         &["run", "--target"],
+        &["run", "--target="],
         &["run", "--target", "none"],
+        &["run", "--target", "--", "full64"],
+        &["run", "--target", "full64", "--target", "full64"],
         &["run", "--target", "full64", "full64"],
-        &["run", "full64", "--target"],
-        &["run", "--target=full64"],
+        &["--target", "full64", "run"],
         &["plan", "--target", "64"],
         &["check", "--target", "full64"],
+        &["convert", "--target", "full64"],
         &["targets", ""],
-        &["many", "7", "1", "0"],
+        &["many", "7", "1"],
+        &["many", "7", "0", "5"],
+        &["many", "7", "65", "1"],
+        &["many", "7", "64", "65536"],
+        &["many", "-1", "1", "1"],
+        &["many", "18446744073709551616", "1", "0"],
+        &["many", "07", "1", "0"],
     ];
     for words in cases {
         let words = words_of(alloc, words)?;
@@ -148,6 +173,39 @@ fn refuses_other_words(rt: HostRuntime) -> Result<(), Fail> {
         assert_eq!(rt; sink.bytes().len(), 0);
         let mut left = [0u8; 256];
         assert_eq!(rt; source.read(&mut left), Ok(FIRST.len()));
+    }
+    Ok(())
+}
+
+#[test]
+fn each_form_asks_for_its_command(rt: HostRuntime) -> Result<(), Fail> {
+    let alloc = rt.alloc();
+    let target = builtin(b"word32");
+    let many = Command::Many {
+        seed: 18446744073709551615,
+        threads: 64,
+        calls: 15625,
+    };
+    let cases: [(&[&str], Command); 12] = [
+        (&["run"], Command::Run { target: None }),
+        (&["run", "--"], Command::Run { target: None }),
+        (&["run", "--target", "word32"], Command::Run { target }),
+        (&["run", "--target=word32"], Command::Run { target }),
+        (
+            &["run", "--target", "word32", "--"],
+            Command::Run { target },
+        ),
+        (&["plan"], Command::Plan { target: None }),
+        (&["plan", "--target=word32"], Command::Plan { target }),
+        (&["check"], Command::Check),
+        (&["convert"], Command::Convert),
+        (&["targets"], Command::Targets),
+        (&["many", "18446744073709551615", "64", "15625"], many),
+        (&["many", "18446744073709551615", "--", "64", "15625"], many),
+    ];
+    for (words, command) in cases {
+        let words = words_of(alloc, words)?;
+        assert_eq!(rt; read_words(alloc, &words), Ok(command));
     }
     Ok(())
 }
@@ -303,23 +361,4 @@ n compare_exchange_weak 5 6 acq_rel acquire = err 4
 last
 n 4";
     assert_report(&rt, rt.alloc(), "object n usize 0", calls, report)
-}
-
-#[test]
-fn reads_from_a_reader(rt: HostRuntime) -> Result<(), Fail> {
-    let mut source = ReadSource::new(FIRST);
-    let mut buffer = [0u8; 6];
-    assert_eq!(rt; source.read(&mut buffer), Ok(6));
-    assert_eq!(rt; &buffer, b"work 1");
-    Ok(())
-}
-
-#[test]
-fn hands_on_to_a_writer(rt: HostRuntime) -> Result<(), Fail> {
-    let mut sink = WriteSink::new(rt.alloc(), Vec::new(rt.alloc()))
-        .ok()
-        .ok_or("memory")?;
-    assert_eq!(rt; sink.write(b"last\n"), Ok(5));
-    assert_eq!(rt; sink.flush(), Ok(()));
-    Ok(())
 }

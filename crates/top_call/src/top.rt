@@ -1,16 +1,17 @@
 //! The top call.
 
-ghost use Rattle.std.specs.Prelude.{◌≡◌, true, None, Ok, Err};
+ghost use Rattle.std.specs.Prelude.{◌≡◌, true, Some, None};
 ghost use Rattle.work_lang.specs.Streams.{LosesFront};
 ghost use Rattle.top_call.specs.Outside.{outside};
-ghost use Rattle.top_call.specs.Commands.{command_of, described_by, described, reads, IsTargetAsked, HasTarget};
+ghost use Rattle.top_call.specs.Commands.{command_of, described_by, described, reads, IsAsked, IsTargetAsked};
 ghost use Rattle.top_call.specs.Status.{status_of, SaysOf, Says, CountsStay, WhereNotWritten, WhereNotRead, Completes};
 
 use crate::command::{Command, WordsFault, read_words};
 use crate::describing::{describe_work, on_target, tell_targets, tell_unread};
 use crate::input::read_input;
 use crate::outcome::Outcome;
-use crate::running::run_work;
+use crate::run_text::RunText;
+use crate::running::{run_many, run_work};
 use crate::status::Status;
 use place_core::Gate;
 use std::alloc::Global;
@@ -36,11 +37,11 @@ fn describe_input<S: Source, K: Sink>(
     source: &mut S,
     sink: &mut K,
 ) -> Status
-    requires describes { described_by command ≡ Ok command }
+    requires describes { described_by command ≡ Some command }
     requires reads { reads command ≡ true }
-    requires target { HasTarget command }
-    ensures says { SaysOf command (outside S.left S.faults K.taken K.faults source.old sink.old) (outside S.left S.faults K.taken K.faults source.new sink.new) result None }
-    ensures counts { CountsStay result (outside S.left S.faults K.taken K.faults source.old sink.old) (outside S.left S.faults K.taken K.faults source.new sink.new) }
+    requires asked { IsAsked command }
+    ensures says { SaysOf command (outside S.left S.faults K.taken K.faults K.whole source.old sink.old) (outside S.left S.faults K.taken K.faults K.whole source.new sink.new) result None }
+    ensures counts { CountsStay result (outside S.left S.faults K.taken K.faults K.whole source.old sink.old) (outside S.left S.faults K.taken K.faults K.whole source.new sink.new) }
     ensures front { LosesFront S.left source.old source.new }
     ensures sink { WhereNotWritten result (sink.new ≡ sink.old) }
 {
@@ -57,17 +58,19 @@ fn describe_command<S: Source, K: Sink>(
     source: &mut S,
     sink: &mut K,
 ) -> Status
-    requires target { HasTarget command }
-    ensures says { Says (described_by command) (outside S.left S.faults K.taken K.faults source.old sink.old) (outside S.left S.faults K.taken K.faults source.new sink.new) result None }
-    ensures counts { CountsStay result (outside S.left S.faults K.taken K.faults source.old sink.old) (outside S.left S.faults K.taken K.faults source.new sink.new) }
+    requires asked { IsAsked command }
+    ensures says { Says (described_by command) (outside S.left S.faults K.taken K.faults K.whole source.old sink.old) (outside S.left S.faults K.taken K.faults K.whole source.new sink.new) result None }
+    ensures counts { CountsStay result (outside S.left S.faults K.taken K.faults K.whole source.old sink.old) (outside S.left S.faults K.taken K.faults K.whole source.new sink.new) }
     ensures front { LosesFront S.left source.old source.new }
     ensures source { WhereNotRead (described_by command) (source.new ≡ source.old) }
     ensures sink { WhereNotWritten result (sink.new ≡ sink.old) }
 {
     match command {
-        Command::Run { .. } => Status::Usage,
+        Command::Run { .. } | Command::Many { .. } => Status::Usage,
         Command::Targets => tell_targets(sink),
-        Command::Check | Command::Plan { .. } => describe_input(alloc, command, source, sink),
+        Command::Check | Command::Convert | Command::Plan { .. } => {
+            describe_input(alloc, command, source, sink)
+        }
     }
 }
 
@@ -81,13 +84,20 @@ fn run_input<R: Threads + Wait + Sync, S: Source, K: Sink, G: Gate>(
     gate: &G,
 ) -> Outcome
     requires target { IsTargetAsked target }
-    ensures says { SaysOf (Command.Run target) (outside S.left S.faults K.taken K.faults source.old sink.old) (outside S.left S.faults K.taken K.faults source.new sink.new) result.status result.ended }
-    ensures counts { CountsStay result.status (outside S.left S.faults K.taken K.faults source.old sink.old) (outside S.left S.faults K.taken K.faults source.new sink.new) }
+    ensures says { SaysOf (Command.Run target) (outside S.left S.faults K.taken K.faults K.whole source.old sink.old) (outside S.left S.faults K.taken K.faults K.whole source.new sink.new) result.status result.ended }
+    ensures counts { CountsStay result.status (outside S.left S.faults K.taken K.faults K.whole source.old sink.old) (outside S.left S.faults K.taken K.faults K.whole source.new sink.new) }
     ensures front { LosesFront S.left source.old source.new }
     ensures sink { WhereNotWritten result.status (sink.new ≡ sink.old) }
 {
     match read_input(alloc, source) {
-        Ok(work) => run_work(rt, alloc, on_target(work, target), sink, gate),
+        Ok(work) => run_work(
+            rt,
+            alloc,
+            on_target(work, target),
+            RunText::Report,
+            sink,
+            gate,
+        ),
         Err(unread) => Outcome {
             status: tell_unread(unread, sink),
             ended: None,
@@ -95,9 +105,10 @@ fn run_input<R: Threads + Wait + Sync, S: Source, K: Sink, G: Gate>(
     }
 }
 
-/// Does what describes and doesn't run: writes the canonical text of a workload that it reads (`check`), its plan table
-/// (`plan`), or the built-in targets (`targets`), which leaves the source as it was. It always returns. At the
-/// words of `run` it answers Usage, as at words that are no form. The status says how it ended, and what was read and
+/// Does what describes and doesn't run: writes the canonical text of a workload that it reads (`check`), that of the
+/// same workload in version 2 (`convert`), its plan table (`plan`), or the built-in targets (`targets`), which leaves
+/// the source as it was. It always returns. At the words of `run` and `many` it answers Usage, as at words that are no
+/// form. The status says how it ended, and what was read and
 /// written then; it never reads more than 8,388,609 bytes.
 pub fn describe<S: Source, K: Sink>(
     alloc: Global,
@@ -105,9 +116,9 @@ pub fn describe<S: Source, K: Sink>(
     source: &mut S,
     sink: &mut K,
 ) -> Status
-    ensures says { Says (described (command_of words.now)) (outside S.left S.faults K.taken K.faults source.old sink.old) (outside S.left S.faults K.taken K.faults source.new sink.new) result None }
-    ensures complete { Completes (described (command_of words.now)) (outside S.left S.faults K.taken K.faults source.old sink.old) (outside S.left S.faults K.taken K.faults source.new sink.new) result }
-    ensures counts { CountsStay result (outside S.left S.faults K.taken K.faults source.old sink.old) (outside S.left S.faults K.taken K.faults source.new sink.new) }
+    ensures says { Says (described (command_of words.now)) (outside S.left S.faults K.taken K.faults K.whole source.old sink.old) (outside S.left S.faults K.taken K.faults K.whole source.new sink.new) result None }
+    ensures complete { Completes (described (command_of words.now)) (outside S.left S.faults K.taken K.faults K.whole source.old sink.old) (outside S.left S.faults K.taken K.faults K.whole source.new sink.new) result }
+    ensures counts { CountsStay result (outside S.left S.faults K.taken K.faults K.whole source.old sink.old) (outside S.left S.faults K.taken K.faults K.whole source.new sink.new) }
     ensures front { LosesFront S.left source.old source.new }
     ensures source { WhereNotRead (described (command_of words.now)) (source.new ≡ source.old) }
     ensures sink { WhereNotWritten result (sink.new ≡ sink.old) }
@@ -120,8 +131,8 @@ pub fn describe<S: Source, K: Sink>(
 
 /// Does all that the program does, by the words of the command line without the program's name. `run` reads a workload
 /// from the source, runs it on an arena of its own target or the one that `--target` names, with a thread for each
-/// script, and writes the report of the arena's one history to the sink; every other command is served as by
-/// `describe`. The gate is told of each call of a script before and after it. It reads 8,388,609 bytes at most, and may
+/// script, and writes the report of the arena's one history to the sink; `many` does the same with the workload that its
+/// three numbers generate, reads nothing, and writes the last values; every other command is served as by `describe`. The gate is told of each call of a script before and after it. It reads 8,388,609 bytes at most, and may
 /// wait for the threads of a run. The status says how it ended, and what was read and written then.
 pub fn portable_call<R: Threads + Wait + Sync, S: Source, K: Sink, G: Gate>(
     rt: &R,
@@ -133,12 +144,12 @@ pub fn portable_call<R: Threads + Wait + Sync, S: Source, K: Sink, G: Gate>(
 ) -> Outcome
     // What each status says. At Done of `run` the sink gained the report of the one history of the arena that is handed
     // out, and that history is a run of the workload that was read.
-    ensures says { Says (command_of words.now) (outside S.left S.faults K.taken K.faults source.old sink.old) (outside S.left S.faults K.taken K.faults source.new sink.new) result.status result.ended }
+    ensures says { Says (command_of words.now) (outside S.left S.faults K.taken K.faults K.whole source.old sink.old) (outside S.left S.faults K.taken K.faults K.whole source.new sink.new) result.status result.ended }
     // Where nothing outside fails, it finishes.
-    ensures complete { Completes (command_of words.now) (outside S.left S.faults K.taken K.faults source.old sink.old) (outside S.left S.faults K.taken K.faults source.new sink.new) result.status }
+    ensures complete { Completes (command_of words.now) (outside S.left S.faults K.taken K.faults K.whole source.old sink.old) (outside S.left S.faults K.taken K.faults K.whole source.new sink.new) result.status }
 
     // A fault of the source or the sink is told as that.
-    ensures counts { CountsStay result.status (outside S.left S.faults K.taken K.faults source.old sink.old) (outside S.left S.faults K.taken K.faults source.new sink.new) }
+    ensures counts { CountsStay result.status (outside S.left S.faults K.taken K.faults K.whole source.old sink.old) (outside S.left S.faults K.taken K.faults K.whole source.new sink.new) }
     // How far it reads, and what it leaves untouched.
     ensures front { LosesFront S.left source.old source.new }
     ensures source { WhereNotRead (command_of words.now) (source.new ≡ source.old) }
@@ -146,6 +157,13 @@ pub fn portable_call<R: Threads + Wait + Sync, S: Source, K: Sink, G: Gate>(
 {
     match read_words(alloc, words) {
         Ok(Command::Run { target }) => run_input(rt, alloc, target, source, sink, gate),
+        Ok(
+            Command::Many {
+                seed,
+                threads,
+                calls,
+            },
+        ) => run_many(rt, alloc, seed, threads, calls, sink, gate),
         Ok(command) => Outcome {
             status: describe_command(alloc, command, source, sink),
             ended: None,

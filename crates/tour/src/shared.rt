@@ -51,7 +51,7 @@ fn object(name: &[u8], kind: Kind, start: u128) -> Option<Declared> {
 pub(crate) fn open(alloc: Global, target: &[u8]) -> Option<(Arena, Root)>
     ensures { IfSome result (λ r. IsReadyRoot r.0 r.1) }
 {
-    let target = read_target(target).ok()?;
+    let target = read_target(target, 2).ok()?;
     let objects = [
         object(b"ready", bool::KIND, 0)?,
         object(b"hits", u16::KIND, 0)?,

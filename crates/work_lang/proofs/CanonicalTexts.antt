@@ -1,5 +1,5 @@
 -- The canonical text spells its workload.
-use Rattle.std.proofs.Common.{◌≡◌, ℕ, zero, suc, ◌<◌, ◌≤◌, ltb, leb, eqb, Bool, true, false, not, ◌&&◌, ◌||◌, List, [], ◌∷◌, ◌++◌, length, map, Option, Some, Ok, refl, sym, ap, subst, ◌∙◌, arith, inl, inr, append_assoc}
+use Rattle.std.proofs.Common.{◌≡◌, ℕ, zero, suc, ◌<◌, ◌≤◌, ◌^◌, ltb, leb, eqb, Bool, true, false, not, ◌&&◌, ◌||◌, List, [], ◌∷◌, ◌++◌, length, map, Option, Some, Ok, refl, sym, ap, subst, ◌∙◌, arith, inl, inr, append_assoc}
 use Rattle.std.specs.Prelude.{filter, codes, slice_get, IsSomeAnd}
 use Rattle.std.specs.Str.{bytes_eq}
 use Rattle.std.specs.List.{slice_split, join_with_byte, flat_map, list_all, AllByRecursion}
@@ -23,11 +23,13 @@ use Rattle.op_table.proofs.ValueTexts.{printed_is_read, value_text_is_short}
 use Rattle.op_table.proofs.WordTables.{kind_word_is_read}
 use Rattle.op_table.proofs.ShortWords.{kind_word_is_short, operation_word_is_short, order_word_is_short}
 use Rattle.target_desc.specs.declared.target.Target.{Target}
-use Rattle.target_desc.specs.Target.{IsTarget}
+use Rattle.target_desc.specs.Target.{IsTarget, IsVersion}
 use Rattle.target_desc.specs.Text.{target_words, target_text}
 use Rattle.target_desc.proofs.Printed.{kept, no_spaces, words_of_joined, both_print, joined_prints, longer, text_has_words, text_is_printable, says_itself}
 use Rattle.place_core.specs.declared.name.Declared.{Declared}
 use Rattle.place_core.specs.declared.script.Line.{Line}
+use Rattle.place_core.specs.declared.script.Piece.{Piece}
+use Rattle.place_core.specs.declared.script.Piece.TheVariants.{One, Block}
 use Rattle.place_core.specs.Name.{is_lower, is_name_byte, is_name}
 use Rattle.work_lang.specs.declared.item.Item.{Item}
 use Rattle.work_lang.specs.declared.item.Item.TheVariants as items
@@ -36,11 +38,11 @@ use Rattle.work_lang.specs.Limits.{most_bytes}
 use Rattle.work_lang.specs.Operands.{Operand, operand, operands_of, position_kind, HasPosition}
 use Rattle.work_lang.specs.CallOrders.{orders_of, are_seq_cst}
 use Rattle.place_core.specs.DeclaredObjects.{IsDeclared}
-use Rattle.work_lang.specs.Workload.{Workload, AreDeclared, HasLine, LineFits, IsWork}
+use Rattle.work_lang.specs.Workload.{Workload, AreDeclared, HasLine, LineStands, PieceStands, IsWork}
 use Rattle.work_lang.specs.Reading.{is_printable}
-use Rattle.work_lang.specs.Spelling.{Pairs, AreOrders, IsSaid, speaks, thread_items, items_of, Spells}
+use Rattle.work_lang.specs.Spelling.{Pairs, AreOrders, IsSaid, speaks, piece_items, thread_items, items_of, Spells}
 use Rattle.work_lang.specs.Print.{operand_text, operand_words, order_words, words_with, words_on, call_line}
-use Rattle.work_lang.specs.Canonical.{target_line, object_line, ended_call_line, thread_lines, canonical_lines, canonical_text}
+use Rattle.work_lang.specs.Canonical.{version_line, target_line, object_line, ended_call_line, repeat_line, piece_texts, thread_lines, canonical_lines, canonical_text}
 use Rattle.work_lang.proofs.Names.{declared_is_name}
 use Rattle.work_lang.proofs.OperandTexts.{position_is_kind}
 
@@ -69,13 +71,14 @@ line_from objects i ws ended plain end said speaking =
 plain_word : (w : List ℕ) → ltb 0 (length w) ≡ true → leb (length w) 40 ≡ true → list_all is_word_byte w ≡ true → IsWordUpTo 40 w
 plain_word w some short plain = record { some = ltb-true _ _ some; short = leb-true _ _ short; plain = plain }
 
-version_line : (objects : List Declared) → IsLine objects items.Version (codes "work 1\n")
-version_line objects = line_from objects items.Version (codes "work" ∷ codes "1" ∷ []) _ (plain_word _ refl refl refl, (plain_word _ refl refl refl, tt)) refl refl refl
+pub version_is_line : (objects : List Declared) (version : ℕ) → IsVersion version → IsLine objects (items.Version version) (version_line version)
+version_is_line objects version (inl first) = rw first (line_from objects (items.Version 1) (codes "work" ∷ codes "1" ∷ []) _ (plain_word _ refl refl refl, (plain_word _ refl refl refl, tt)) refl (codes "1", refl, refl) refl)
+version_is_line objects version (inr second) = rw second (line_from objects (items.Version 2) (codes "work" ∷ codes "2" ∷ []) _ (plain_word _ refl refl refl, (plain_word _ refl refl refl, tt)) refl (codes "2", refl, refl) refl)
 
 thread_line : (objects : List Declared) → IsLine objects items.Thread (codes "thread\n")
 thread_line objects = line_from objects items.Thread (codes "thread" ∷ []) _ (plain_word _ refl refl refl, tt) refl refl refl
 
-end_line : (objects : List Declared) → IsLine objects items.End (codes "end\n")
+pub end_line : (objects : List Declared) → IsLine objects items.End (codes "end\n")
 end_line objects = line_from objects items.End (codes "end" ∷ []) _ (plain_word _ refl refl refl, tt) refl refl refl
 
 -- ---- targets
@@ -89,7 +92,7 @@ word_in_front w line is =
 target_word : IsWordUpTo 40 (codes "target")
 target_word = plain_word _ refl refl refl
 
-target_is_line : (objects : List Declared) (t : Target) → IsTarget t → IsLine objects (items.Target t) (target_line t)
+pub target_is_line : (objects : List Declared) (t : Target) → IsTarget t → IsLine objects (items.Target t) (target_line t)
 unfolding target_line
 target_is_line objects t is =
     let words : words_of (codes "target" ++ 32 ∷ target_text t) ≡ codes "target" ∷ target_words t = word_in_front (codes "target") (target_text t) target_word ∙ ap (λ (ws : List (List ℕ)). codes "target" ∷ ws) (text_has_words t is) in
@@ -97,7 +100,7 @@ target_is_line objects t is =
       line = codes "target " ++ target_text t;
       end = sym (append_assoc (codes "target ") (target_text t) (10 ∷ []));
       printable = both_print (codes "target ") (target_text t) refl (text_is_printable t is);
-      said = subst (λ (ws : List (List ℕ)). IsSaid objects (items.Target t) ws) (sym words) (target_words t, says_itself t is, refl);
+      said = subst (λ (ws : List (List ℕ)). IsSaid objects (items.Target t) ws) (sym words) (target_words t, says_itself 2 t is (λ big. refl), refl);
       speaks = ap speaks words;
     }
 
@@ -228,23 +231,47 @@ object_at [] o P all has = absurd has
 object_at (x ∷ xs) zero P all has = (x, refl, all.0, has)
 object_at (x ∷ xs) (suc o) P all has = object_at xs o P all.1 has
 
-calls_are_lines : (objects : List Declared) (lines : List Line) → AreDeclared [] objects → AllByRecursion IsDeclared objects → AllByRecursion (LineFits objects) lines → Pairs (IsLine objects) (map items.Call lines) (map (ended_call_line objects) lines)
-calls_are_lines objects [] ok are fits = tt
-calls_are_lines objects (l ∷ ls) ok are fits =
-    let d = object_at objects l.object (HasLine l) are fits.0 in
-    (call_is_line objects l d.0 d.1 (declared_is_name [] objects ok l.object d.0 d.1) d.2.0 d.3, calls_are_lines objects ls ok are fits.1)
+a_call_is_line : (version : ℕ) (objects : List Declared) (l : Line) → AreDeclared [] objects → AllByRecursion IsDeclared objects → LineStands version objects l → IsLine objects (items.Call l) (ended_call_line objects l)
+a_call_is_line version objects l ok are stands =
+    let d = object_at objects l.object (HasLine l) are stands.0 in
+    call_is_line objects l d.0 d.1 (declared_is_name [] objects ok l.object d.0 d.1) d.2.0 d.3
 
-threads_are_lines : (objects : List Declared) (threads : List (List Line)) → AreDeclared [] objects → AllByRecursion IsDeclared objects → AllByRecursion (λ (lines : List Line). AllByRecursion (LineFits objects) lines) threads → Pairs (IsLine objects) (flat_map thread_items threads) (flat_map (thread_lines objects) threads)
-threads_are_lines objects [] ok are fits = tt
-threads_are_lines objects (ls ∷ lss) ok are fits =
-    let one : Pairs (IsLine objects) (thread_items ls) (thread_lines objects ls) = (thread_line objects, pairs_both (IsLine objects) (map items.Call ls) (items.End ∷ []) (map (ended_call_line objects) ls) (codes "end\n" ∷ []) (calls_are_lines objects ls ok are fits.0) (end_line objects, tt)) in
-    subst (λ (is : List Item). Pairs (IsLine objects) is (flat_map (thread_lines objects) (ls ∷ lss))) (sym (flat_map-cons thread_items ls lss))
-    (subst (λ (x : List (List ℕ)). Pairs (IsLine objects) (thread_items ls ++ flat_map thread_items lss) x) (sym (flat_map-cons (thread_lines objects) ls lss))
-    (pairs_both (IsLine objects) (thread_items ls) (flat_map thread_items lss) (thread_lines objects ls) (flat_map (thread_lines objects) lss) one (threads_are_lines objects lss ok are fits.1)))
+calls_are_lines : (version : ℕ) (objects : List Declared) (lines : List Line) → AreDeclared [] objects → AllByRecursion IsDeclared objects → AllByRecursion (LineStands version objects) lines → Pairs (IsLine objects) (map items.Call lines) (map (ended_call_line objects) lines)
+calls_are_lines version objects [] ok are stand = tt
+calls_are_lines version objects (l ∷ ls) ok are stand = (a_call_is_line version objects l ok are stand.0, calls_are_lines version objects ls ok are stand.1)
+
+repeat_is_line : (objects : List Declared) (times : ℕ) → times < 2 ^ 32 → IsLine objects (items.Repeat times) (repeat_line times)
+unfolding repeat_line
+repeat_is_line objects times few =
+    line_from objects (items.Repeat times) (codes "repeat:" ∷ value_text position_kind times ∷ []) _ (plain_word _ refl refl refl, (value_text_is_short position_kind times position_is_kind few, tt)) refl
+    (value_text position_kind times, printed_is_read position_kind times position_is_kind few, refl) refl
+
+piece_is_lines : (version : ℕ) (objects : List Declared) (p : Piece) → AreDeclared [] objects → AllByRecursion IsDeclared objects → PieceStands version objects p → Pairs (IsLine objects) (piece_items p) (piece_texts objects p)
+piece_is_lines version objects (One l) ok are stands = (a_call_is_line version objects l ok are stands, tt)
+piece_is_lines version objects (Block times lines) ok are stands =
+    (repeat_is_line objects times stands.2, pairs_both (IsLine objects) (map items.Call lines) (items.End ∷ []) (map (ended_call_line objects) lines) (codes "end\n" ∷ []) (calls_are_lines version objects lines ok are stands.3) (end_line objects, tt))
+
+-- what holds of each item's part holds of the whole
+pairs_flat : {X A B : Type 0} (R : A → B → Type 0) (P : X → Type 0) (f : X → List A) (g : X → List B) (xs : List X) → ((x : X) → P x → Pairs R (f x) (g x)) → AllByRecursion P xs → Pairs R (flat_map f xs) (flat_map g xs)
+pairs_flat R P f g [] each all = tt
+pairs_flat {A = A} {B = B} R P f g (x ∷ xs) each all =
+    subst (λ (us : List A). Pairs R us (flat_map g (x ∷ xs))) (sym (flat_map-cons f x xs))
+    (subst (λ (vs : List B). Pairs R (f x ++ flat_map f xs) vs) (sym (flat_map-cons g x xs))
+    (pairs_both R (f x) (flat_map f xs) (g x) (flat_map g xs) (each x all.0) (pairs_flat R P f g xs each all.1)))
+
+thread_is_lines : (version : ℕ) (objects : List Declared) (script : List Piece) → AreDeclared [] objects → AllByRecursion IsDeclared objects → AllByRecursion (PieceStands version objects) script → Pairs (IsLine objects) (thread_items script) (thread_lines objects script)
+thread_is_lines version objects script ok are stand = (
+  thread_line objects,
+  pairs_both (IsLine objects) (flat_map piece_items script) (items.End ∷ []) (flat_map (piece_texts objects) script) (codes "end\n" ∷ [])
+      (pairs_flat (IsLine objects) (PieceStands version objects) piece_items (piece_texts objects) script (λ p stands. piece_is_lines version objects p ok are stands) stand) (end_line objects, tt),
+)
+
+threads_are_lines : (version : ℕ) (objects : List Declared) (scripts : List (List Piece)) → AreDeclared [] objects → AllByRecursion IsDeclared objects → AllByRecursion (λ (script : List Piece). AllByRecursion (PieceStands version objects) script) scripts → Pairs (IsLine objects) (flat_map thread_items scripts) (flat_map (thread_lines objects) scripts)
+threads_are_lines version objects scripts ok are stand = pairs_flat (IsLine objects) (λ (script : List Piece). AllByRecursion (PieceStands version objects) script) thread_items (thread_lines objects) scripts (λ script stands. thread_is_lines version objects script ok are stands) stand
 
 pub work_is_lines : (w : Workload) → IsWork w → Pairs (IsLine w.objects) (items_of w) (canonical_lines w)
 work_is_lines w ok =
-    (version_line w.objects, (target_is_line w.objects w.target ok.target, pairs_both (IsLine w.objects) (map items.Object w.objects) (flat_map thread_items w.threads) (map object_line w.objects) (flat_map (thread_lines w.objects) w.threads) (objects_are_lines w.objects [] w.objects ok.names ok.objects) (threads_are_lines w.objects w.threads ok.names ok.objects ok.lines)))
+    (version_is_line w.objects w.version ok.version, (target_is_line w.objects w.target ok.target, pairs_both (IsLine w.objects) (map items.Object w.objects) (flat_map thread_items w.scripts) (map object_line w.objects) (flat_map (thread_lines w.objects) w.scripts) (objects_are_lines w.objects [] w.objects ok.names ok.objects) (threads_are_lines w.version w.objects w.scripts ok.names ok.objects ok.pieces)))
 
 -- ---- lines of a text
 
@@ -256,7 +283,7 @@ no_feed (b ∷ bs) h =
     (ne_eqb b 10 (λ e. omega (arith, leb-true _ _ byte.0)), no_feed bs parts.1)
 
 -- a printable line in front of a text
-line_in_front : (line text : List ℕ) → list_all is_printable line ≡ true → lines_of ((line ++ 10 ∷ []) ++ text) ≡ line ∷ lines_of text
+pub line_in_front : (line text : List ℕ) → list_all is_printable line ≡ true → lines_of ((line ++ 10 ∷ []) ++ text) ≡ line ∷ lines_of text
 unfolding lines_of
 line_in_front line text printable =
     ap lines_of (append_assoc line (10 ∷ []) text) ∙ ap without_last_empty (slice_split_at (λ b. eqb b 10) line 10 text (All-from_recursion _ line (no_feed line printable)) refl) ∙ first_stays
@@ -268,7 +295,7 @@ pub record AreSaid (objects : List Declared) (is : List Item) (lines : List (Lis
   pub printable : AllByRecursion (λ line. list_all is_printable line ≡ true) lines
   pub said : Pairs (IsSaid objects) is (filter speaks (map words_of lines))
 
-no_lines : lines_of [] ≡ []
+pub no_lines : lines_of [] ≡ []
 unfolding lines_of
 no_lines = refl
 

@@ -4,7 +4,7 @@ use Rattle.std.proofs.lemmas.List.{append-nil, take_all, drop_all, take_at, drop
 use Rattle.std.specs.Prelude.{Some, None}
 use Rattle.std.specs.declared.option.Option.{Option}
 use Rattle.std.specs.Io.KnownBytes.{Appends, Consumes, Keeps, IsAtEnd}
-use Rattle.work_lang.specs.Streams.{most_read, ReadsAll, LosesFront, text_of, AppendsFront}
+use Rattle.work_lang.specs.Streams.{most_read, ReadsAll, LosesFront, AppendsFront}
 
 pub Appends-nothing : (old : Option (List ℕ)) → Appends old old []
 Appends-nothing None = tt
@@ -21,6 +21,16 @@ Appends-kept None mid new a first kept = tt
 Appends-kept (Some xs) None new a first kept = absurd first
 Appends-kept (Some xs) (Some ys) None a first kept = absurd kept
 Appends-kept (Some xs) (Some ys) (Some zs) a first kept = kept ∙ first
+
+pub Keeps-same : (old : Option (List ℕ)) → Keeps old old
+Keeps-same None = tt
+Keeps-same (Some xs) = refl
+
+pub Keeps-twice : (old mid new : Option (List ℕ)) → Keeps old mid → Keeps mid new → Keeps old new
+Keeps-twice None mid new first next = tt
+Keeps-twice (Some xs) None new first next = absurd first
+Keeps-twice (Some xs) (Some ys) None first next = absurd next
+Keeps-twice (Some xs) (Some ys) (Some zs) first next = next ∙ first
 
 pub Consumes-twice : (old mid new : Option (List ℕ)) (a b : List ℕ) → Consumes old mid a → Consumes mid new b → Consumes old new (a ++ b)
 Consumes-twice None mid new a b first next = tt
@@ -80,17 +90,19 @@ TookFront-more {old = old} {mid = mid} {new = new} {piece = piece} {rest = rest}
 }
 
 -- all of it was taken
-pub TookFront-all : {old new : Option (List ℕ)} {piece rest : List ℕ} → length rest ≡ 0 → TookFront old new piece rest → Appends old new (text_of (piece ∷ []))
-TookFront-all {old = old} {new = new} {piece = piece} {rest = []} none took =
-    subst (λ (l : List ℕ). Appends old new l) (sym (append-nil took.front) ∙ sym took.split ∙ sym (append-nil piece)) took.told
+pub TookFront-all : {old new : Option (List ℕ)} {piece rest : List ℕ} → length rest ≡ 0 → TookFront old new piece rest → Appends old new piece
+TookFront-all {old = old} {new = new} {rest = []} none took = subst (λ (l : List ℕ). Appends old new l) (sym (took.split ∙ append-nil took.front)) took.told
 TookFront-all {rest = x ∷ rest} none took = absurd (omega arith)
 
 -- a write failed before all of it was taken
-pub TookFront-stops : {old mid : Option (List ℕ)} (new : Option (List ℕ)) {piece rest : List ℕ} → 0 < length rest → TookFront old mid piece rest → Keeps mid new → AppendsFront old new (text_of (piece ∷ []))
+pub TookFront-stops : {old mid : Option (List ℕ)} (new : Option (List ℕ)) {piece rest : List ℕ} → 0 < length rest → TookFront old mid piece rest → Keeps mid new → AppendsFront old new piece
 TookFront-stops {old = old} {mid = mid} new {piece = piece} {rest = rest} some took kept =
-    let n : ℕ = length took.front in
-    let whole : piece ++ [] ≡ took.front ++ rest = append-nil piece ∙ took.split in (
+    let n : ℕ = length took.front in (
       n,
-      omega (arith, ap length whole, length-append took.front rest),
-      subst (λ (l : List ℕ). Appends old new l) (sym (ap (take n) whole ∙ take_at took.front rest n refl)) (Appends-kept old mid new took.front took.told kept),
+      omega (arith, ap length took.split, length-append took.front rest),
+      subst (λ (l : List ℕ). Appends old new l) (sym (ap (take n) took.split ∙ take_at took.front rest n refl)) (Appends-kept old mid new took.front took.told kept),
     )
+
+-- the rest is no longer than the piece
+pub length-rest : {old new : Option (List ℕ)} {piece rest : List ℕ} → TookFront old new piece rest → length rest ≤ length piece
+length-rest {rest = rest} took = omega (arith, ap length took.split, length-append took.front rest)

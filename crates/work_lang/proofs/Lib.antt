@@ -15,10 +15,20 @@ pub mod OperandForms
 pub mod OperandTexts
 pub mod OrderTexts
 pub mod Pieces
+pub mod Counters
 pub mod CanonicalSteps
 pub mod CanonicalTexts
 pub mod Runs
+pub mod Scripts
 pub mod Spelled
 pub mod Steps
 pub mod Values
 pub mod Walks
+mod Drawing
+pub mod GeneratedWorks
+pub mod SameLines
+pub mod Cutting
+pub mod LongestRuns
+pub mod SecondForms
+pub mod Cuts
+pub mod FaultLines

@@ -1,10 +1,10 @@
 -- An object is found by its name.
-use Rattle.std.proofs.Common.{◌≡◌, ℕ, zero, suc, ◌+◌, ◌<◌, ltb, Bool, true, false, not, ◌&&◌, List, [], ◌∷◌, ◌++◌, length, Some, None, refl, sym, ap, subst, ◌∙◌, arith, append_assoc}
+use Rattle.std.proofs.Common.{◌≡◌, ℕ, zero, suc, ◌+◌, ◌<◌, ltb, Bool, true, false, not, ◌&&◌, List, [], ◌∷◌, ◌++◌, length, Some, None, refl, sym, ap, subst, ◌∙◌, arith, append_assoc, inl, inr}
 use Rattle.std.specs.Prelude.{slice_get, codes}
 use Rattle.std.specs.List.{position_or_len, list_all}
 use Rattle.std.specs.Str.{bytes_eq}
 use Rattle.std.proofs.lemmas.Slice.Eq.{bytes_eq-Decides}
-use Rattle.std.proofs.lemmas.Bool.{lt-ltb, and_parts, not-true}
+use Rattle.std.proofs.lemmas.Bool.{cases_Bool, lt-ltb, and_parts, not-true}
 use Rattle.std.proofs.lemmas.List.{length-append}
 use Rattle.place_core.specs.declared.name.Declared.{Declared}
 use Rattle.place_core.specs.Name.{is_lower, is_name_byte, is_name}
@@ -62,3 +62,17 @@ name_is_not_end [] h = absurd cc
 name_is_not_end (b ∷ bs) h =
     let parts = and_parts (is_lower b && list_all is_name_byte bs && ltb (length bs) 16) (not (bytes_eq (b ∷ bs) (codes "end"))) h in
     not-true (bytes_eq (b ∷ bs) (codes "end")) parts.1
+
+some_word : (w : List ℕ) → bytes_eq w (codes "repeat:") ≡ true → is_name w ≡ false
+some_word w e = ap is_name ((bytes_eq-Decides w (codes "repeat:")).0 e)
+
+-- a name has no colon
+pub name_is_not_repeat : (w : List ℕ) → is_name w ≡ true → bytes_eq w (codes "repeat:") ≡ false
+name_is_not_repeat w h =
+    elim (cases_Bool (bytes_eq w (codes "repeat:"))) [
+      | inl e ↦ absurd (true_false (sym h ∙ some_word w e))
+      | inr e ↦ e
+    ]
+  where
+    true_false : true ≡ false → ⊥
+    true_false e = cc

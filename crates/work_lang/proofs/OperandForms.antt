@@ -6,7 +6,7 @@ use Rattle.op_table.specs.declared.kind.Kind.{Kind}
 use Rattle.op_table.specs.declared.call.Call.{Call}
 use Rattle.op_table.specs.declared.call.Call.TheVariants as call
 use Rattle.op_table.specs.declared.words.Operation.{Operation}
-use Rattle.op_table.specs.declared.words.Operation.TheVariants.{Load, Store, Swap, CompareExchange, CompareExchangeWeak, FetchAdd, Add, FetchSub, Sub, FetchAnd, And, FetchOr, Or, FetchXor, Xor, FetchMax, FetchMin, FetchNot, Not, FetchNeg, Neg, BitSet, BitClear, BitToggle, FetchByteAdd, FetchByteSub}
+use Rattle.op_table.specs.declared.words.Operation.TheVariants.{Load, Store, Swap, CompareExchange, CompareExchangeWeak, FetchAdd, Add, FetchSub, Sub, FetchAnd, And, FetchOr, Or, FetchXor, Xor, FetchMax, FetchMin, FetchNot, Not, FetchNeg, Neg, BitSet, BitClear, BitToggle, AddFetch, SubFetch, FetchByteAdd, FetchByteSub}
 use Rattle.op_table.specs.Kind.{values_of}
 use Rattle.op_table.specs.Call.{CallFits}
 use Rattle.op_table.specs.Words.{has_operation, loud_or_quiet, sum_operation, operation_of}
@@ -65,6 +65,8 @@ form_makes kind Neg has = (refl, is_int Neg kind.class refl refl has, tt, refl)
 form_makes kind BitSet has = λ p small. (refl, other_than BitSet kind.class class.Bool refl has, small, refl)
 form_makes kind BitClear has = λ p small. (refl, other_than BitClear kind.class class.Bool refl has, small, refl)
 form_makes kind BitToggle has = λ p small. (refl, other_than BitToggle kind.class class.Bool refl has, small, refl)
+form_makes kind AddFetch has = λ a small. (refl, (small, is_int AddFetch kind.class refl refl has), tt, refl)
+form_makes kind SubFetch has = λ a small. (refl, (small, is_int SubFetch kind.class refl refl has), tt, refl)
 form_makes kind FetchByteAdd has = λ a small. let is = is_ptr FetchByteAdd kind.class refl refl has in (ap (λ (c : Class). sum_operation c false FetchAdd Add FetchByteAdd) is, (small, inr (is, refl)), tt, refl)
 form_makes kind FetchByteSub has = λ a small. let is = is_ptr FetchByteSub kind.class refl refl has in (ap (λ (c : Class). sum_operation c false FetchSub Sub FetchByteSub) is, (small, inr (is, refl)), tt, refl)
 form_makes kind op has = λ a small. (refl, (small, other_than op kind.class class.Ptr refl has), tt, refl)

@@ -5,6 +5,7 @@ pub mod Limits
 pub mod Operands
 pub mod CallOrders
 pub mod Workload
+pub mod Generated
 pub mod Fault
 pub mod Slips
 pub mod Reading
@@ -13,4 +14,8 @@ pub mod Kept
 pub mod Index
 pub mod Print
 pub mod Canonical
+pub mod Second
+pub mod SecondLaws
+pub mod Cutting
 pub mod Laws
+pub mod CutLaws

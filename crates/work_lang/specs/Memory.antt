@@ -1,5 +1,5 @@
 -- Sources and sinks in memory.
-use Rattle.std.specs.Prelude.{ℕ, ◌-◌, min, Bool, ◌||◌, nat_lt, List, ◌++◌, length, take, drop, ◌==◌, if◌then◌else◌}
+use Rattle.std.specs.Prelude.{ℕ, ◌-◌, min, Bool, ◌||◌, nat_lt, nat_le, List, ◌++◌, length, take, drop, ◌==◌, if◌then◌else◌}
 use Rattle.std.specs.List.{list_any}
 use Rattle.work_lang.specs.Faults.{next_count}
 
@@ -35,6 +35,10 @@ pub record Page : Type 0 where
   pub fails : List ℕ
   pub writes : ℕ
   pub faults : ℕ
+
+-- whether a write takes all of a line or fails: it asks for the whole of each piece of at most 256 bytes
+abbrev pub takes_lines : Page → Bool
+takes_lines page = nat_le 256 page.most
 
 -- how many bytes of a piece a write asks for
 abbrev pub asked_room : Page → List ℕ → ℕ

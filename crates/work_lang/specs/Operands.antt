@@ -1,11 +1,11 @@
 -- The operands of operations and of calls.
-use Rattle.std.specs.Prelude.{ℕ, ◌<◌, ◌^◌, true, false, List, [], ◌∷◌, Option, Some, None, ⊤}
+use Rattle.std.specs.Prelude.{ℕ, ◌<◌, ◌^◌, Bool, true, false, List, [], ◌∷◌, Option, Some, None, ⊤}
 use Rattle.op_table.specs.declared.kind.Kind.{Kind}
 use Rattle.op_table.specs.declared.kind.Width.TheVariants.{W32}
 use Rattle.op_table.specs.declared.call.Call.{Call}
 use Rattle.op_table.specs.declared.call.Call.TheVariants as call
 use Rattle.op_table.specs.declared.words.Operation.{Operation}
-use Rattle.op_table.specs.declared.words.Operation.TheVariants.{Load, Store, Swap, CompareExchange, CompareExchangeWeak, FetchAdd, Add, FetchSub, Sub, FetchAnd, And, FetchNand, FetchOr, Or, FetchXor, Xor, FetchMax, FetchMin, FetchNot, Not, FetchNeg, Neg, BitSet, BitClear, BitToggle, FetchByteAdd, FetchByteSub}
+use Rattle.op_table.specs.declared.words.Operation.TheVariants.{Load, Store, Swap, CompareExchange, CompareExchangeWeak, FetchAdd, Add, FetchSub, Sub, FetchAnd, And, FetchNand, FetchOr, Or, FetchXor, Xor, FetchMax, FetchMin, FetchNot, Not, FetchNeg, Neg, BitSet, BitClear, BitToggle, AddFetch, SubFetch, AndFetch, NandFetch, OrFetch, XorFetch, FetchByteAdd, FetchByteSub}
 use Rattle.op_table.specs.Words.{integer}
 use Rattle.work_lang.specs.declared.operands.Operands.{Operands}
 use Rattle.work_lang.specs.declared.operands.Operands.TheVariants as given
@@ -48,8 +48,24 @@ form_of Neg = Alone (call.Neg true)
 form_of BitSet = WithPosition call.BitSet
 form_of BitClear = WithPosition call.BitClear
 form_of BitToggle = WithPosition call.BitToggle
+form_of AddFetch = WithValue call.AddFetch
+form_of SubFetch = WithValue call.SubFetch
+form_of AndFetch = WithValue call.AndFetch
+form_of NandFetch = WithValue call.NandFetch
+form_of OrFetch = WithValue call.OrFetch
+form_of XorFetch = WithValue call.XorFetch
 form_of FetchByteAdd = WithValue (λ a. call.Add a false)
 form_of FetchByteSub = WithValue (λ a. call.Sub a false)
+
+-- an operation that version 1 of the language doesn't have: it answers the new value
+abbrev pub is_later : Operation → Bool
+is_later AddFetch = true
+is_later SubFetch = true
+is_later AndFetch = true
+is_later NandFetch = true
+is_later OrFetch = true
+is_later XorFetch = true
+is_later _ = false
 
 -- a form without its call
 abbrev pub arity_in : Form → Arity
@@ -129,6 +145,12 @@ operands_in (call.Neg q) = given.None
 operands_in (call.BitSet p) = given.Position p
 operands_in (call.BitClear p) = given.Position p
 operands_in (call.BitToggle p) = given.Position p
+operands_in (call.AddFetch a) = given.Value a
+operands_in (call.SubFetch a) = given.Value a
+operands_in (call.AndFetch a) = given.Value a
+operands_in (call.NandFetch a) = given.Value a
+operands_in (call.OrFetch a) = given.Value a
+operands_in (call.XorFetch a) = given.Value a
 
 abbrev pub listed : Kind → Operands → List Operand
 listed kind given.None = []

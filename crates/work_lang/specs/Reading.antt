@@ -1,6 +1,6 @@
 -- Reading a workload line by line, up to the first fault: the table of places of faults.
 -- In each definition the causes stand in the order in which they are looked at.
-use Rattle.std.specs.Prelude.{ℕ, ◌≡◌, ◌+◌, Bool, false, not, ◌&&◌, ◌==◌, List, [], ◌∷◌, ◌++◌, length, nat_le, nat_lt, slice_index, slice_get, Option, Some, None, Result, Ok, Err, codes, if◌then◌else◌}
+use Rattle.std.specs.Prelude.{ℕ, ◌≡◌, ◌+◌, Bool, false, not, ◌&&◌, ◌||◌, ◌==◌, List, [], ◌∷◌, ◌++◌, length, nat_le, nat_lt, slice_index, slice_get, Option, Some, None, Result, Ok, Err, codes, if◌then◌else◌}
 use Rattle.std.specs.List.{list_all, sum_by}
 use Rattle.std.specs.Str.{bytes_eq}
 use Rattle.std.specs.Option.{is_some}
@@ -12,6 +12,7 @@ use Rattle.op_table.specs.declared.kind.Kind.{Kind}
 use Rattle.op_table.specs.declared.kind.Width.TheVariants.{W1}
 use Rattle.op_table.specs.declared.kind.Class.TheVariants as class
 use Rattle.op_table.specs.declared.call.Call.{Call}
+use Rattle.op_table.specs.declared.words.Operation.{Operation}
 use Rattle.op_table.specs.declared.order.Order.{Order}
 use Rattle.op_table.specs.Value.{parsed_value}
 use Rattle.op_table.specs.Words.{kind_of_word, operation_of_word, has_operation}
@@ -22,6 +23,8 @@ use Rattle.target_desc.specs.declared.reading.TargetFault.TheVariants as wrong
 use Rattle.target_desc.specs.Reading.{target_at}
 use Rattle.place_core.specs.declared.name.Declared.{Declared}
 use Rattle.place_core.specs.declared.script.Line.{Line}
+use Rattle.place_core.specs.declared.script.Piece.{Piece}
+use Rattle.place_core.specs.declared.script.Piece.TheVariants.{One, Block}
 use Rattle.place_core.specs.Name.{name_of}
 use Rattle.work_lang.specs.declared.fault.Cause.{Cause}
 use Rattle.work_lang.specs.declared.fault.Cause.TheVariants as causes
@@ -31,25 +34,31 @@ use Rattle.work_lang.specs.declared.fault.LineFault.TheVariants as faults
 use Rattle.work_lang.specs.declared.fault.WorkFault.{WorkFault}
 use Rattle.work_lang.specs.declared.fault.WorkFault.TheVariants as texts
 use Rattle.work_lang.specs.declared.item.Item.{Item}
+use Rattle.work_lang.specs.declared.item.OpenBlock.{OpenBlock}
 use Rattle.work_lang.specs.declared.item.Item.TheVariants as items
 use Rattle.work_lang.specs.declared.item.Awaits.{Awaits}
 use Rattle.work_lang.specs.declared.item.Awaits.TheVariants as awaits
 use Rattle.work_lang.specs.declared.orders.Orders.{Orders}
-use Rattle.work_lang.specs.Operands.{Form, Alone, WithValue, WithPosition, WithValues, form_of, position_kind}
+use Rattle.work_lang.specs.Operands.{Form, Alone, WithValue, WithPosition, WithValues, form_of, position_kind, is_later}
 use Rattle.work_lang.specs.CallOrders.{left_out}
-use Rattle.work_lang.specs.Limits.{most_bytes, most_objects, most_threads, most_calls, most_calls_in_all}
+use Rattle.work_lang.specs.declared.limits.Limits.{Limits}
+use Rattle.work_lang.specs.Limits.{most_bytes, most_threads, limits_of}
 use Rattle.work_lang.specs.Slips.{slip, word_at, end_at, need_at, check_at, value_at}
-use Rattle.work_lang.specs.Workload.{Workload, object_of}
+use Rattle.work_lang.specs.Workload.{Workload, object_of, lines_written, calls_made}
 
 -- ---- lines, each from its first word w on
+
+-- the version that a word names
+abbrev pub version_of_word : List ℕ → Option ℕ
+version_of_word w = if bytes_eq w (codes "1") then Some 1 else if bytes_eq w (codes "2") then Some 2 else None
 
 unfoldable pub version_at : List ℕ → Cursor → Result Item Slip
 version_at w c = do
   _ ← check_at c causes.Version (bytes_eq w (codes "work"))
   v ← word_at c
-  _ ← check_at v.1 causes.Version (bytes_eq v.0 (codes "1"))
+  version ← need_at v.1 causes.Version (version_of_word v.0)
   _ ← end_at v.1
-  Ok items.Version
+  Ok (items.Version version)
 
 -- a fault of a target, as one of the line
 abbrev pub target_slip : TargetFault → Slip
@@ -62,18 +71,19 @@ target_or (Ok t) = Ok t
 target_or (Err fault) = Err (target_slip fault)
 
 -- a target by its name or its description, which all further words are
-abbrev pub described_at : Cursor → Result Target Slip
-described_at c = target_or (target_at c)
+abbrev pub described_at : ℕ → Cursor → Result Target Slip
+described_at version c = target_or (target_at version c)
 
-unfoldable pub target_line_at : List ℕ → Cursor → Result Item Slip
-target_line_at w c = do
+unfoldable pub target_line_at : ℕ → List ℕ → Cursor → Result Item Slip
+target_line_at version w c = do
   _ ← check_at c causes.UnknownWord (bytes_eq w (codes "target"))
-  t ← described_at c
+  t ← described_at version c
   Ok (items.Target t)
 
-unfoldable pub object_at : List Declared → Cursor → Result Item Slip
-object_at objects c = do
-  _ ← check_at c causes.Limit (nat_lt (length objects) most_objects)
+-- an object where at most so many may stand
+unfoldable pub object_at : ℕ → List Declared → Cursor → Result Item Slip
+object_at most objects c = do
+  _ ← check_at c causes.Limit (nat_lt (length objects) most)
   n ← word_at c
   name ← need_at n.1 causes.UnknownWord (name_of n.0)
   _ ← check_at n.1 causes.Twice (not (is_some (object_of objects n.0)))
@@ -117,10 +127,22 @@ operands_at kind (WithValue call) c = one_operand_at kind call c
 operands_at kind (WithPosition call) c = one_operand_at position_kind call c
 operands_at kind (WithValues call) c = two_operands_at kind call c
 
+-- the operations of a version: version 1 has none that answers the new value
+abbrev pub is_operation_of : ℕ → Operation → Bool
+is_operation_of version op = not (is_later op) || version == 2
+
+abbrev pub if_of_version : ℕ → Option Operation → Option Operation
+if_of_version version None = None
+if_of_version version (Some op) = if is_operation_of version op then Some op else None
+
+-- the operation that a word stands for in a version
+unfoldable pub operation_in : ℕ → List ℕ → Option Operation
+operation_in version w = if_of_version version (operation_of_word w)
+
 -- a call's word and its operands
-unfoldable pub operation_at : Kind → List ℕ → Cursor → Result (Call × Cursor) Slip
-operation_at kind w c = do
-  op ← need_at c causes.UnknownWord (operation_of_word w)
+unfoldable pub operation_at : ℕ → Kind → List ℕ → Cursor → Result (Call × Cursor) Slip
+operation_at version kind w c = do
+  op ← need_at c causes.UnknownWord (operation_in version w)
   _ ← check_at c causes.NotForKind (has_operation kind.class op)
   operands_at kind (form_of op) c
 
@@ -162,58 +184,101 @@ kind_in (Some d) = d.kind
 abbrev pub kind_at : List Declared → ℕ → Kind
 kind_at objects o = kind_in (slice_get objects o)
 
-unfoldable pub call_at : List Declared → ℕ → ℕ → List ℕ → Cursor → Result Item Slip
-call_at objects calls all w c = do
-  object ← need_at c causes.UnknownName (object_of objects w)
-  _ ← check_at c causes.Limit (nat_lt calls most_calls && nat_lt all most_calls_in_all)
-  o ← word_at c
-  call ← operation_at (kind_at objects object) o.0 o.1
-  orders ← orders_at call.0 call.1
-  Ok (items.Call (record { object = object; call = call.0; success = orders.success; failure = orders.failure }))
-
 -- ---- what is awaited
 
 pub record State : Type 0 where
   pub awaits : Awaits
+  pub version : ℕ
   pub target : Target
   pub objects : List Declared
-  -- the threads that are closed
-  pub threads : List (List Line)
-  -- the lines of the thread that is open
-  pub lines : List Line
+  -- the scripts of the threads that are closed
+  pub scripts : List (List Piece)
+  -- the pieces of the thread that is open
+  pub pieces : List Piece
+  pub block : Option OpenBlock
 
 -- the target that stands until the line of the target was read
 abbrev pub unread_target : Target
-unread_target = record { word_bits = 64; packed = false; steps = record { swap = false; add = false; bits = false; order = false }; locks = 1; section = false }
+unread_target = record { word_bits = 64; packed = false; steps = record { swap = false; add = false; bits = false; order = false }; locks = 1; section = false; big = false }
 
 abbrev pub start : State
-start = record { awaits = awaits.Version; target = unread_target; objects = []; threads = []; lines = [] }
+start = record { awaits = awaits.Version; version = 1; target = unread_target; objects = []; scripts = []; pieces = []; block = None }
 
--- the calls of all threads so far
-abbrev pub all_calls : State → ℕ
-all_calls s = sum_by length s.threads + length s.lines
+-- how often a call line here is made
+abbrev pub times_in : Option OpenBlock → ℕ
+times_in None = 1
+times_in (Some block) = block.times
+
+-- the block as it would be closed now
+abbrev pub closed_block : Option OpenBlock → List Piece
+closed_block None = []
+closed_block (Some block) = Block block.times block.lines ∷ []
+
+-- the open thread's script so far
+abbrev pub script_so_far : State → List Piece
+script_so_far s = s.pieces ++ closed_block s.block
+
+-- a call line more passes no limit of lines
+abbrev pub has_line_room : State → Limits → Bool
+has_line_room s most = nat_lt (lines_written (script_so_far s)) most.lines && nat_lt (sum_by lines_written s.scripts + lines_written (script_so_far s)) most.lines_in_all
+
+-- its calls pass no limit of calls
+abbrev pub has_call_room : State → Limits → Bool
+has_call_room s most = nat_le (calls_made (script_so_far s) + times_in s.block) most.calls && nat_le (sum_by calls_made s.scripts + calls_made (script_so_far s) + times_in s.block) most.calls_in_all
+
+abbrev pub has_room : State → Bool
+has_room s = has_line_room s (limits_of s.version) && has_call_room s (limits_of s.version)
+
+unfoldable pub call_at : State → List ℕ → Cursor → Result Item Slip
+call_at s w c = do
+  object ← need_at c causes.UnknownName (object_of s.objects w)
+  _ ← check_at c causes.Limit (has_room s)
+  o ← word_at c
+  call ← operation_at s.version (kind_at s.objects object) o.0 o.1
+  orders ← orders_at call.0 call.1
+  Ok (items.Call (record { object = object; call = call.0; success = orders.success; failure = orders.failure }))
+
+-- ---- blocks
+
+-- the line that opens a block, which must not stand in one
+unfoldable pub repeat_at : Option OpenBlock → Cursor → Result Item Slip
+repeat_at block c = do
+  _ ← check_at c causes.UnknownWord (not (is_some block))
+  w ← word_at c
+  times ← value_at w.1 (parsed_value position_kind w.0)
+  _ ← check_at w.1 causes.OutOfRange (nat_lt 0 times)
+  _ ← end_at w.1
+  Ok (items.Repeat times)
+
+-- only version 2 has blocks
+abbrev pub is_repeat : ℕ → List ℕ → Bool
+is_repeat version w = version == 2 && bytes_eq w (codes "repeat:")
+
+-- ---- lines of a state
 
 unfoldable pub first_thread_at : State → List ℕ → Cursor → Result Item Slip
 first_thread_at s w c =
-    if bytes_eq w (codes "object") then object_at s.objects c
-    else if bytes_eq w (codes "thread") then thread_at (length s.threads) c
+    if bytes_eq w (codes "object") then object_at (limits_of s.version).objects s.objects c
+    else if bytes_eq w (codes "thread") then thread_at (length s.scripts) c
     else slip c.taken causes.UnknownWord
 
 unfoldable pub next_thread_at : State → List ℕ → Cursor → Result Item Slip
 next_thread_at s w c =
-    if bytes_eq w (codes "thread") then thread_at (length s.threads) c
+    if bytes_eq w (codes "thread") then thread_at (length s.scripts) c
     else slip c.taken causes.UnknownWord
 
+-- `end` closes the block, or the thread where no block is open
 unfoldable pub in_thread_at : State → List ℕ → Cursor → Result Item Slip
 in_thread_at s w c =
     if bytes_eq w (codes "end") then (do
       _ ← end_at c
       Ok items.End)
-    else call_at s.objects (length s.lines) (all_calls s) w c
+    else if is_repeat s.version w then repeat_at s.block c
+    else call_at s w c
 
 abbrev pub awaited_at : Awaits → State → List ℕ → Cursor → Result Item Slip
 awaited_at awaits.Version s w c = version_at w c
-awaited_at awaits.Target s w c = target_line_at w c
+awaited_at awaits.Target s w c = target_line_at s.version w c
 awaited_at awaits.Object s w c = first_thread_at s w c
 awaited_at awaits.Thread s w c = next_thread_at s w c
 awaited_at awaits.Call s w c = in_thread_at s w c
@@ -239,14 +304,25 @@ said_by s (w ∷ ws) = if is_comment w then Ok None else (do
 unfoldable pub content_at : State → List ℕ → Result (Option Item) Slip
 content_at s line = if list_all is_printable line then said_by s (words_of line) else slip 0 causes.NotAscii
 
+-- the open thread with a line more, or its open block
+abbrev pub with_line : State → Line → Option OpenBlock → State
+with_line s line None = record s { pieces = s.pieces ++ One line ∷ [] }
+with_line s line (Some block) = record s { block = Some (record block { lines = block.lines ++ line ∷ [] }) }
+
+-- the open block is closed, or the open thread
+abbrev pub closed : State → Option OpenBlock → State
+closed s None = record s { awaits = awaits.Thread; scripts = s.scripts ++ s.pieces ∷ []; pieces = [] }
+closed s (Some block) = record s { pieces = s.pieces ++ Block block.times block.lines ∷ []; block = None }
+
 -- the state after an item
 abbrev pub next : State → Item → State
-next s items.Version = record s { awaits = awaits.Target }
+next s (items.Version version) = record s { awaits = awaits.Target; version = version }
 next s (items.Target t) = record s { awaits = awaits.Object; target = t }
 next s (items.Object d) = record s { objects = s.objects ++ d ∷ [] }
 next s items.Thread = record s { awaits = awaits.Call }
-next s (items.Call l) = record s { lines = s.lines ++ l ∷ [] }
-next s items.End = record s { awaits = awaits.Thread; threads = s.threads ++ s.lines ∷ []; lines = [] }
+next s (items.Repeat times) = record s { block = Some (record { times = times; lines = [] }) }
+next s (items.Call l) = with_line s l s.block
+next s items.End = closed s s.block
 
 abbrev pub next_if : State → Option Item → State
 next_if s None = s
@@ -276,7 +352,7 @@ at_line n (Err s) = Err (record { line = n; word = s.word; cause = s.cause })
 
 -- the workload of the threads that are closed
 abbrev pub work_of : State → Workload
-work_of s = record { target = s.target; objects = s.objects; threads = s.threads }
+work_of s = record { version = s.version; target = s.target; objects = s.objects; scripts = s.scripts }
 
 -- the end of a text of n lines
 abbrev pub ended : Awaits → State → ℕ → Result Workload Fault

@@ -219,20 +219,24 @@ impl MemSink {
 }
 
 impl Sink for MemSink {
-    ghost use Rattle.std.specs.Prelude.{◌≡◌, ◌<◌, ◌≤◌, length, is_err, IfOk, Some};
+    ghost use Rattle.std.specs.Prelude.{◌≡◌, ◌<◌, ◌≤◌, true, length, is_err, IfOk, Some};
     ghost use Rattle.std.specs.Io.{WritesAtMost};
     ghost use Rattle.std.specs.Io.KnownBytes.{WriteAppends};
     ghost use Rattle.work_lang.specs.Faults.{last_count, HasCause};
-    ghost use Rattle.work_lang.specs.Memory.{asked_room, write_fails, after_write};
+    ghost use Rattle.work_lang.specs.Memory.{takes_lines, asked_room, write_fails, after_write};
 
     ghost taken = { λ s. Some s.taken };
 
     ghost faults = { λ s. s.faults };
 
+    ghost whole = { takes_lines };
+
     fn write(&mut self, piece: &[u8]) -> Result<usize, Failed>
         ensures bound { WritesAtMost result piece.now }
         ensures progress { IfOk result (λ n. 0 < length piece.now → 0 < n) }
         ensures bytes { WriteAppends (Some self.old.taken) (Some self.new.taken) result piece.now }
+        ensures whole { takes_lines self.old ≡ true → length piece.now ≤ 256 → IfOk result (λ n. n ≡ length piece.now) }
+        ensures kept { takes_lines self.new ≡ takes_lines self.old }
         ensures cause { HasCause self.old.faults self.new.faults result }
         ensures counted { self.new.faults ≤ last_count }
         ensures exact { is_err result ≡ write_fails self.old piece.now }
@@ -292,7 +296,7 @@ impl SureSink {
 }
 
 impl Sink for SureSink {
-    ghost use Rattle.std.specs.Prelude.{◌≡◌, ◌+◌, ◌<◌, ◌≤◌, min, length, IfOk, Ok, None};
+    ghost use Rattle.std.specs.Prelude.{◌≡◌, ◌+◌, ◌<◌, ◌≤◌, min, true, length, IfOk, Ok, None};
     ghost use Rattle.std.specs.Io.{WritesAtMost};
     ghost use Rattle.std.specs.Io.KnownBytes.{WriteAppends};
     ghost use Rattle.work_lang.specs.Faults.{last_count, HasCause};
@@ -301,10 +305,14 @@ impl Sink for SureSink {
 
     ghost faults = { λ s. 0 };
 
+    ghost whole = { λ s. true };
+
     fn write(&mut self, piece: &[u8]) -> Result<usize, Failed>
         ensures bound { WritesAtMost result piece.now }
         ensures progress { IfOk result (λ n. 0 < length piece.now → 0 < n) }
         ensures bytes { WriteAppends None None result piece.now }
+        ensures whole { true ≡ true → length piece.now ≤ 256 → IfOk result (λ n. n ≡ length piece.now) }
+        ensures kept { true ≡ true }
         ensures cause { HasCause 0 0 result }
         ensures counted { 0 ≤ last_count }
         ensures count { result ≡ Ok (length piece.now) }

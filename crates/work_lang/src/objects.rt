@@ -9,15 +9,16 @@ ghost use Rattle.work_lang.specs.Reading.{kind_at};
 use op_table::{Class, Kind, NoMemory, Width};
 use place_core::Declared;
 use std::alloc::Global;
-use std::collections::HashMap;
+use std::collections::BTreeMap;
 use std::marker::Model;
 
-/// Objects in declared order, with an index of their names: a look-up doesn't walk over them.
+/// Objects in declared order, with an index of their names. A look-up compares a name with few others, and no choice of
+/// names makes it compare with more.
 #[derive(Drop)]
 pub struct Objects {
     alloc: Global,
     items: Vec<Declared>,
-    index: HashMap<Vec<u8>, u32>,
+    index: BTreeMap<Vec<u8>, u32>,
 }
 
 impl Model for Objects {
@@ -42,7 +43,7 @@ impl Objects {
         Objects {
             alloc,
             items: Vec::new(alloc),
-            index: HashMap::new(alloc),
+            index: BTreeMap::new(alloc),
         }
     }
 

@@ -4,7 +4,7 @@ ghost use Rattle.std.specs.Prelude.{◌≡◌, Some};
 ghost use Rattle.line_words.specs.Steps.{Steps};
 ghost use Rattle.op_table.specs.Kind.{IsKind};
 ghost use Rattle.op_table.specs.Value.{parsed_value};
-ghost use Rattle.work_lang.specs.Operands.{form_of, arity_of, alone_in, value_in, position_in, values_in, zero_call, position_kind, operands_in};
+ghost use Rattle.work_lang.specs.Operands.{form_of, is_later, arity_of, alone_in, value_in, position_in, values_in, zero_call, position_kind, operands_in};
 ghost use Rattle.work_lang.specs.declared.operands.Arity.TheVariants as arities;
 ghost use Rattle.work_lang.specs.Reading.{number_at, operands_at};
 
@@ -56,6 +56,21 @@ fn arity_of(operation: Operation) -> Arity
     }
 }
 
+/// Whether version 1 of the language lacks the operation: it answers the new value.
+pub fn is_later(operation: Operation) -> bool
+    ensures { result ≡ is_later operation }
+{
+    matches!(
+        operation,
+        Operation::AddFetch
+            | Operation::SubFetch
+            | Operation::AndFetch
+            | Operation::NandFetch
+            | Operation::OrFetch
+            | Operation::XorFetch
+    )
+}
+
 /// The call of an operation without operands.
 fn alone(operation: Operation) -> Call
     requires { arity_of operation ≡ arities.None }
@@ -92,6 +107,12 @@ fn with_value(operation: Operation, a: u128) -> Call
         Operation::Xor => Call::Xor(a, true),
         Operation::FetchMax => Call::Max(a),
         Operation::FetchMin => Call::Min(a),
+        Operation::AddFetch => Call::AddFetch(a),
+        Operation::SubFetch => Call::SubFetch(a),
+        Operation::AndFetch => Call::AndFetch(a),
+        Operation::NandFetch => Call::NandFetch(a),
+        Operation::OrFetch => Call::OrFetch(a),
+        Operation::XorFetch => Call::XorFetch(a),
         _ => unreachable!(),
     }
 }
@@ -144,7 +165,7 @@ fn number(kind: Kind, words: &mut Words<'_>) -> Result<u128, Slip>
     Ok(n)
 }
 
-fn read_position(text: &[u8]) -> Result<u32, ValueFault>
+pub fn read_position(text: &[u8]) -> Result<u32, ValueFault>
     ensures { result ≡ parsed_value position_kind text.now }
 {
     match read_value(POSITION, text) {
@@ -200,5 +221,8 @@ pub fn operands_in(call: &Call) -> Operands
         Call::Add(a, _) | Call::Sub(a, _) => Operands::Value(*a),
         Call::And(a, _) | Call::Or(a, _) | Call::Xor(a, _) => Operands::Value(*a),
         Call::Nand(a) | Call::Max(a) | Call::Min(a) => Operands::Value(*a),
+        Call::AddFetch(a) | Call::SubFetch(a) => Operands::Value(*a),
+        Call::AndFetch(a) | Call::NandFetch(a) => Operands::Value(*a),
+        Call::OrFetch(a) | Call::XorFetch(a) => Operands::Value(*a),
     }
 }

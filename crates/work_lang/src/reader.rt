@@ -1,23 +1,25 @@
 //! Reading a workload line by line.
 
-ghost use Rattle.std.specs.Prelude.{◌≡◌, ◌<◌, ◌≤◌, ◌^◌, length, OnOk, IfOk, Ok, Err};
+ghost use Rattle.std.specs.Prelude.{◌≡◌, ◌<◌, ◌≤◌, ◌^◌, ◌-◌, true, length, OnOk, IfOk, Ok, Err};
 ghost use Rattle.std.specs.List.{list_all};
 ghost use Rattle.line_words.specs.Steps.{Gives};
+ghost use Rattle.target_desc.specs.Target.{IsVersion};
 ghost use Rattle.work_lang.specs.Limits.{most_bytes};
 ghost use Rattle.work_lang.specs.Workload.{Workload};
-ghost use Rattle.work_lang.specs.Reading.{State, start, first_thread_at, next_thread_at, in_thread_at, item_at, is_comment, is_printable, content_at, next, after_line, Moves, ended, reading_of, Reads};
+ghost use Rattle.work_lang.specs.Reading.{State, start, has_room, call_at, is_repeat, first_thread_at, next_thread_at, in_thread_at, item_at, is_comment, is_printable, content_at, with_line, closed, next, after_line, Moves, ended, reading_of, Reads};
 ghost use Rattle.work_lang.specs.Spelling.{Spells};
 ghost use Rattle.work_lang.specs.Kept.{Allowed, IsKept};
 
 use crate::fault::{Cause, LineFault, Slip, WorkFault};
-use crate::item::{self, Awaits, Item};
-use crate::limits::MOST_BYTES;
+use crate::item::{self, Awaits, Item, OpenBlock};
+use crate::limits::{MOST_BYTES, limits_of};
 use crate::objects::Objects;
-use crate::words::{end, fail};
+use crate::orders::read_orders;
+use crate::words::{check, end, fail, need, word};
 use crate::work::Work;
 use line_words::{Words, line_at};
 use op_table::{NoMemory, StepSet};
-use place_core::Script;
+use place_core::{Line, Lines, Script};
 use std::alloc::{AllocFailed, Global};
 use std::marker::Model;
 use target_desc::Target;
@@ -34,34 +36,48 @@ const UNREAD_TARGET: Target = Target {
     },
     locks: 1,
     section: false,
+    big: false,
 };
+
+/// How many call lines were written, and how many calls they make: a line in a block makes as many as the block says.
+#[derive(Clone, Copy, Debug, PartialEq, Eq)]
+struct Counts {
+    lines: u32,
+    calls: u32,
+}
+
+/// No lines.
+const NONE: Counts = Counts { lines: 0, calls: 0 };
 
 /// What was read so far.
 #[derive(Drop)]
 struct Reader {
     alloc: Global,
     awaits: Awaits,
+    version: u32,
     target: Target,
     objects: Objects,
     /// The threads that are closed.
     threads: Vec<Script>,
-    /// The lines of the thread that is open.
-    lines: Script,
-    /// The calls of all threads.
-    calls: u32,
+    /// The thread that is open, without the block that is open.
+    script: Script,
+    /// The block that is open.
+    block: Option<OpenBlock>,
+    /// Of the thread that is open, with the block that is open.
+    in_thread: Counts,
+    /// Of all threads.
+    in_all: Counts,
 }
 
 impl Model for Reader {
-    ghost use Rattle.std.specs.Prelude.{length, map, ◌≡◌, ◌+◌};
-    ghost use Rattle.std.specs.List.{sum_by};
-    ghost use Rattle.place_core.specs.Pieces.{script_lines};
     ghost use Rattle.work_lang.specs.Reading.{State};
+    ghost use Rattle.work_lang.specs.Kept.{AreCounts};
 
     ghost Value = { State };
 
-    ghost view = { λ r. record { awaits = r.awaits; target = r.target; objects = r.objects; threads = map script_lines r.threads.items; lines = script_lines r.lines } };
+    ghost view = { λ r. record { awaits = r.awaits; version = r.version; target = r.target; objects = r.objects; scripts = r.threads.items; pieces = r.script; block = r.block } };
 
-    ghost invariant = { λ r. (r.calls ≡ sum_by length (map script_lines r.threads.items) + length (script_lines r.lines)) × (length r.lines ≡ length (script_lines r.lines)) };
+    ghost invariant = { λ r. AreCounts r.in_thread r.in_all r.threads.items r.script r.block };
 }
 
 /// It looks at every byte, without an early exit, so that the compiler can take many at a time.
@@ -84,6 +100,13 @@ fn is_comment(word: &[u8]) -> bool
     }
 }
 
+/// Whether a word opens a block. Version 1 has none.
+fn is_repeat(version: u32, word: &[u8]) -> bool
+    ensures { result ≡ is_repeat version word.now }
+{
+    version == 2 && word == b"repeat:".as_slice()
+}
+
 impl Reader {
     fn new(alloc: Global) -> Reader
         ensures { result ≡ start }
@@ -91,11 +114,14 @@ impl Reader {
         Reader {
             alloc,
             awaits: Awaits::Version,
+            version: 1,
             target: UNREAD_TARGET,
             objects: Objects::new(alloc),
             threads: Vec::new(alloc),
-            lines: Script::new(alloc),
-            calls: 0,
+            script: Script::new(alloc),
+            block: None,
+            in_thread: NONE,
+            in_all: NONE,
         }
     }
 
@@ -105,7 +131,7 @@ impl Reader {
         ensures { Gives (λ x. x) result (first_thread_at self.now word.now words.old.cursor) }
     {
         if word == b"object".as_slice() {
-            item::object_item(&self.objects, words)
+            item::object_item(limits_of(self.version).objects, &self.objects, words)
         } else if word == b"thread".as_slice() {
             item::thread_item(self.threads.len(), words)
         } else {
@@ -125,7 +151,40 @@ impl Reader {
         }
     }
 
-    /// A call or the end of the thread.
+    /// Whether a call line more passes no limit.
+    fn has_room(&self) -> bool
+        ensures { result ≡ has_room self.now }
+    {
+        let most = limits_of(self.version);
+        let times = match &self.block {
+            Some(block) => block.times,
+            None => 1,
+        };
+        self.in_thread.lines < most.lines
+            && self.in_all.lines < most.lines_in_all
+            && self.in_thread.calls as u64 + times as u64 <= most.calls as u64
+            && self.in_all.calls as u64 + times as u64 <= most.calls_in_all as u64
+    }
+
+    /// A call line, whose first word is the name of an object.
+    #[tactic(auto, unfolding(crate::specs::Reading::call_at))]
+    fn call_item(&self, first: &[u8], words: &mut Words<'_>) -> Result<Item, Slip>
+        ensures { Gives (λ x. x) result (call_at self.now first.now words.old.cursor) }
+    {
+        let object = need(words, Cause::UnknownName, self.objects.find(first))?;
+        check(words, Cause::Limit, self.has_room())?;
+        let text = word(words)?;
+        let call = item::operation_item(self.version, self.objects.kind(object), text, words)?;
+        let orders = read_orders(&call, words)?;
+        Ok(Item::Call(Line {
+            object,
+            call,
+            success: orders.success,
+            failure: orders.failure,
+        }))
+    }
+
+    /// A call, the beginning or the end of a block, or the end of the thread.
     #[tactic(auto, unfolding(crate::specs::Reading::in_thread_at))]
     fn in_thread_item(&self, word: &[u8], words: &mut Words<'_>) -> Result<Item, Slip>
         ensures { Gives (λ x. x) result (in_thread_at self.now word.now words.old.cursor) }
@@ -133,19 +192,22 @@ impl Reader {
         if word == b"end".as_slice() {
             end(words)?;
             Ok(Item::End)
+        } else if is_repeat(self.version, word) {
+            item::repeat_item(&self.block, words)
         } else {
-            item::call_item(&self.objects, self.lines.len(), self.calls, word, words)
+            self.call_item(word, words)
         }
     }
 
     /// What a line says, by its first word and the others.
     #[tactic(auto, unfolding(crate::specs::Reading::item_at))]
     fn item(&self, word: &[u8], words: &mut Words<'_>) -> Result<Item, Slip>
+        requires { IsVersion self.now.version }
         ensures { Gives (λ x. x) result (item_at self.now word.now words.old.cursor) }
     {
         match self.awaits {
             Awaits::Version => item::version_item(word, words),
-            Awaits::Target => item::target_item(word, words),
+            Awaits::Target => item::target_item(self.version, word, words),
             Awaits::Object => self.first_thread_item(word, words),
             Awaits::Thread => self.next_thread_item(word, words),
             Awaits::Call => self.in_thread_item(word, words),
@@ -155,7 +217,8 @@ impl Reader {
     /// What a line says, if anything.
     #[tactic(auto, unfolding(crate::specs::Reading::content_at))]
     fn content(&self, line: &[u8]) -> Result<Option<Item>, Slip>
-        requires { length line.now < 2 ^ 31 }
+        requires version { IsVersion self.now.version }
+        requires short { length line.now < 2 ^ 31 }
         ensures { Gives (λ x. x) result (content_at self.now line.now) }
     {
         if !is_printable(line) {
@@ -177,31 +240,85 @@ impl Reader {
         }
     }
 
+    /// Adds a call line to the open block, or to the open thread where no block is open.
+    fn add_line(&mut self, line: Line) -> Result<(), NoMemory>
+        requires kept { IsKept self.old }
+        requires room { has_room self.old ≡ true }
+        requires few { length self.old.pieces < 2 ^ 32 - 1 }
+        ensures { OnOk result (self.new ≡ with_line self.old line self.old.block) }
+    {
+        let times = match &mut self.block {
+            Some(block) => {
+                block.lines.push(line)?;
+                block.times
+            }
+            None => {
+                self.script.push(line)?;
+                1
+            }
+        };
+        self.in_thread.lines += 1;
+        self.in_thread.calls += times;
+        self.in_all.lines += 1;
+        self.in_all.calls += times;
+        Ok(())
+    }
+
+    /// Closes the open thread.
+    fn close_thread(&mut self) -> Result<(), NoMemory>
+        requires { self.old.block ≡ None }
+        ensures { OnOk result (self.new ≡ closed self.old None) }
+    {
+        let script = std::mem::replace(&mut self.script, Script::new(self.alloc));
+        if let Err(AllocFailed { value }) = self.threads.push(script) {
+            self.script = value;
+            return Err(NoMemory);
+        }
+        self.in_thread = NONE;
+        self.awaits = Awaits::Thread;
+        Ok(())
+    }
+
+    /// Closes the open block, or the open thread where no block is open.
+    fn close(&mut self) -> Result<(), NoMemory>
+        requires kept { IsKept self.old }
+        requires few { length self.old.pieces < 2 ^ 32 - 1 }
+        ensures { OnOk result (self.new ≡ closed self.old self.old.block) }
+    {
+        let Some(OpenBlock { times, lines }) = self.block.take() else {
+            return self.close_thread();
+        };
+        if let Err((lines, NoMemory)) = self.script.push_block(times, lines) {
+            self.block = Some(OpenBlock { times, lines });
+            return Err(NoMemory);
+        }
+        Ok(())
+    }
+
     /// Goes on by an item. This alone takes memory.
     fn add(&mut self, item: Item) -> Result<(), NoMemory>
-        requires { Allowed self.old item }
+        requires kept { IsKept self.old }
+        requires allowed { Allowed self.old item }
+        requires few { length self.old.pieces < 2 ^ 32 - 1 }
         ensures { OnOk result (self.new ≡ next self.old item) }
     {
         match item {
-            Item::Version => self.awaits = Awaits::Target,
+            Item::Version(version) => {
+                self.version = version;
+                self.awaits = Awaits::Target;
+            }
             Item::Target(target) => {
                 self.target = target;
                 self.awaits = Awaits::Object;
             }
             Item::Object(object) => self.objects.push(object)?,
             Item::Thread => self.awaits = Awaits::Call,
-            Item::Call(line) => {
-                self.lines.push(line)?;
-                self.calls += 1;
+            Item::Repeat(times) => {
+                let lines = Lines::new(self.alloc);
+                self.block = Some(OpenBlock { times, lines });
             }
-            Item::End => {
-                let lines = std::mem::replace(&mut self.lines, Script::new(self.alloc));
-                if let Err(AllocFailed { value }) = self.threads.push(lines) {
-                    self.lines = value;
-                    return Err(NoMemory);
-                }
-                self.awaits = Awaits::Thread;
-            }
+            Item::Call(line) => self.add_line(line)?,
+            Item::End => self.close()?,
         }
         Ok(())
     }
@@ -210,6 +327,7 @@ impl Reader {
     #[tactic(auto, unfolding(crate::specs::Reading::after_line))]
     fn take_line(&mut self, line: &[u8]) -> Result<(), LineFault>
         requires kept { IsKept self.old }
+        requires few { length self.old.pieces < 2 ^ 32 - 1 }
         requires short { length line.now < 2 ^ 31 }
         ensures { Moves result self.new (after_line self.old line.now) }
     {
@@ -231,11 +349,14 @@ impl Reader {
         let Reader {
             alloc: _,
             awaits,
+            version,
             target,
             objects,
             threads,
-            lines: _,
-            calls: _,
+            script: _,
+            block: _,
+            in_thread: _,
+            in_all: _,
         } = self;
         match awaits {
             Awaits::Version | Awaits::Target => Err(WorkFault::Text {
@@ -249,6 +370,7 @@ impl Reader {
                 cause: Cause::Unclosed,
             }),
             Awaits::Object | Awaits::Thread => Ok(Work::of_parts(
+                version,
                 target,
                 objects.into_items(),
                 threads,

@@ -1,11 +1,11 @@
 //! Where bytes come from and where they go.
 
-ghost use Rattle.std.specs.Prelude.{◌≡◌, ◌≢◌, ℕ, ◌<◌, ◌≤◌, List, [], ◌∷◌, length, IfOk};
+ghost use Rattle.std.specs.Prelude.{◌≡◌, ◌≢◌, ℕ, ◌<◌, ◌≤◌, Bool, true, List, [], ◌∷◌, length, IfOk, IfErr, OnOk, OnErr};
 ghost use Rattle.std.specs.Io.{ReadsAtMost, WritesAtMost};
-ghost use Rattle.std.specs.Io.KnownBytes.{ReadConsumes, WriteAppends};
+ghost use Rattle.std.specs.Io.KnownBytes.{Appends, Keeps, ReadConsumes, WriteAppends};
 ghost use Rattle.std.specs.declared.option.Option.{Option};
 ghost use Rattle.work_lang.specs.Faults.{last_count, Rose, HasCause};
-ghost use Rattle.work_lang.specs.Streams.{most_read, ReadsAll, LosesFront, Writes};
+ghost use Rattle.work_lang.specs.Streams.{most_read, ReadsAll, LosesFront, AppendsFront, Writes};
 
 use std::alloc::Global;
 use thiserror::Error;
@@ -40,12 +40,17 @@ pub trait Sink {
     /// How often a write has failed. It never falls, and stands still at 2^64 - 1.
     ghost faults: { Self → ℕ };
 
+    /// Whether a write of at most 256 bytes takes all of them or fails. No write changes it.
+    ghost whole: { Self → Bool };
+
     /// Takes bytes from the front of the piece, and says how many: at least one of a piece that isn't empty.
     /// After `Failed` nothing was taken. The count stands still where nothing failed.
     fn write(&mut self, piece: &[u8]) -> Result<usize, Failed>
         ensures bound { WritesAtMost result piece.now }
         ensures progress { IfOk result (λ n. 0 < length piece.now → 0 < n) }
         ensures bytes { WriteAppends (taken self.old) (taken self.new) result piece.now }
+        ensures whole { whole self.old ≡ true → length piece.now ≤ 256 → IfOk result (λ n. n ≡ length piece.now) }
+        ensures kept { whole self.new ≡ whole self.old }
         ensures cause { HasCause (faults self.old) (faults self.new) result }
         ensures counted { faults self.new ≤ last_count };
 }
@@ -72,10 +77,20 @@ const MOST_READ: usize = 8_388_609;
 /// How many bytes are asked for at a time.
 const READ_SIZE: usize = 65_536;
 
-/// Reads to the end, or until 8,388,609 bytes were read; the rest is left unread. It stops at the first read that
-/// fails: Fault comes only where the source's count rose in this call, and at every other answer the count is as
-/// before. What was read before a Fault or NoMemory stays read.
-pub fn read_all<S: Source>(alloc: Global, source: &mut S) -> Result<Vec<u8>, ReadEnd>
+/// Bytes to read into.
+fn room_of(alloc: Global, size: usize) -> Result<Vec<u8>, ReadEnd>
+    ensures size { IfOk result (λ v. length v.items ≡ size) }
+    ensures err { IfErr result (λ e. e ≡ ReadEnd.NoMemory) }
+{
+    match vec![in alloc; 0u8; size] {
+        Ok(room) => Ok(room),
+        Err(_) => Err(ReadEnd::NoMemory),
+    }
+}
+
+/// Reads to the end as `read_all` does, by way of a buffer.
+fn read_by<S: Source>(alloc: Global, source: &mut S, buffer: &mut [u8]) -> Result<Vec<u8>, ReadEnd>
+    requires { 0 < length buffer.old }
     ensures bytes { IfOk result (λ v. ReadsAll S.left source.old source.new v.items) }
     ensures short { IfOk result (λ v. length v.items ≤ most_read) }
     ensures front { LosesFront S.left source.old source.new }
@@ -84,9 +99,8 @@ pub fn read_all<S: Source>(alloc: Global, source: &mut S) -> Result<Vec<u8>, Rea
     ensures later { S.faults source.old ≤ S.faults source.new }
 {
     let mut all = Vec::new(alloc);
-    let mut buffer = [0u8; READ_SIZE];
     'reads: while all.len() < MOST_READ {
-        let want = (MOST_READ - all.len()).min(READ_SIZE);
+        let want = (MOST_READ - all.len()).min(buffer.len());
         let room = &mut buffer[..want];
         match source.read(room) {
             Err(Failed) => return Err(ReadEnd::Fault),
@@ -101,10 +115,32 @@ pub fn read_all<S: Source>(alloc: Global, source: &mut S) -> Result<Vec<u8>, Rea
     Ok(all)
 }
 
+/// Reads to the end, or until 8,388,609 bytes were read; the rest is left unread. It stops at the first read that
+/// fails: Fault comes only where the source's count rose in this call, and at every other answer the count is as
+/// before. What was read before a Fault or NoMemory stays read. It asks for 64 KiB at a time.
+pub fn read_all<S: Source>(alloc: Global, source: &mut S) -> Result<Vec<u8>, ReadEnd>
+    ensures bytes { IfOk result (λ v. ReadsAll S.left source.old source.new v.items) }
+    ensures short { IfOk result (λ v. length v.items ≤ most_read) }
+    ensures front { LosesFront S.left source.old source.new }
+    ensures fault { result ≡ Err ReadEnd.Fault → Rose (S.faults source.old) (S.faults source.new) }
+    ensures same { result ≢ Err ReadEnd.Fault → S.faults source.new ≡ S.faults source.old }
+    ensures later { S.faults source.old ≤ S.faults source.new }
+{
+    match room_of(alloc, READ_SIZE) {
+        Ok(mut buffer) => read_by(alloc, source, buffer.as_mut_slice()),
+        Err(end) => Err(end),
+    }
+}
+
 /// Writes a piece until all of it is taken, and stops at the first write that fails. Fault comes only where the sink's
-/// count rose in this call; what was taken is then a front of the piece. At Ok the count is as before.
+/// count rose in this call; what was taken is then a front of the piece, and nothing where the sink takes a piece of at
+/// most 256 bytes whole. At Ok the count is as before.
 pub fn write_all<K: Sink>(piece: &[u8], sink: &mut K) -> Result<(), WriteEnd>
-    ensures { Writes K.taken K.faults sink.old sink.new result (piece.now ∷ []) }
+    ensures ok { OnOk result (Appends (K.taken sink.old) (K.taken sink.new) piece.now) }
+    ensures err { OnErr result (AppendsFront (K.taken sink.old) (K.taken sink.new) piece.now) }
+    ensures whole { K.whole sink.old ≡ true → length piece.now ≤ 256 → OnErr result (Keeps (K.taken sink.old) (K.taken sink.new)) }
+    ensures kept { K.whole sink.new ≡ K.whole sink.old }
+    ensures cause { HasCause (K.faults sink.old) (K.faults sink.new) result }
 {
     let mut rest = piece;
     'writes: while !rest.is_empty() {
@@ -117,6 +153,14 @@ pub fn write_all<K: Sink>(piece: &[u8], sink: &mut K) -> Result<(), WriteEnd>
         }
     }
     Ok(())
+}
+
+/// Writes a line, with its end, as one piece.
+pub fn write_line<K: Sink>(line: &[u8], sink: &mut K) -> Result<(), WriteEnd>
+    requires { length line.now ≤ 256 }
+    ensures { Writes K.taken K.faults K.whole sink.old sink.new result (line.now ∷ []) }
+{
+    write_all(line, sink)
 }
 
 #[cfg(test)]

@@ -4,54 +4,68 @@ use place_core::{Declared, Script};
 use std::marker::Model;
 use target_desc::Target;
 
-/// A workload: a target, objects in declared order, and a script for each thread, of which contracts see the lines. Its target is one, names differ, kinds
-/// are valid, starts fit, each line's object is declared and has its call and orders, and the limits hold.
+/// A workload: the version of its language, 1 or 2, a target, objects in declared order, and a script for each thread.
+/// Its target is one of that version, names differ, kinds are valid, starts fit, each line's object is declared and has
+/// its call and orders, and the limits of the version hold. In version 1 no script has a block, and no call answers the
+/// new value.
 #[derive(Drop)]
 pub struct Work {
+    version: u32,
     target: Target,
     objects: Vec<Declared>,
     threads: Vec<Script>,
 }
 
 impl Model for Work {
-    ghost use Rattle.std.specs.Prelude.{map};
-    ghost use Rattle.place_core.specs.Pieces.{script_lines};
     ghost use Rattle.work_lang.specs.Workload.{Workload, IsWork};
 
     ghost Value = { Workload };
 
-    ghost view = { λ w. record { target = w.target; objects = w.objects.items; threads = map script_lines w.threads.items } };
+    ghost view = { λ w. record { version = w.version; target = w.target; objects = w.objects.items; scripts = w.threads.items } };
 
-    ghost invariant = { λ w. IsWork (record { target = w.target; objects = w.objects.items; threads = map script_lines w.threads.items }) };
+    ghost invariant = { λ w. IsWork (record { version = w.version; target = w.target; objects = w.objects.items; scripts = w.threads.items }) };
 }
 
 impl Work {
-    ghost use Rattle.std.specs.Prelude.{◌≡◌, map};
-    ghost use Rattle.place_core.specs.Pieces.{script_lines};
-    ghost use Rattle.target_desc.specs.Target.{IsTarget};
+    ghost use Rattle.std.specs.Prelude.{◌≡◌};
+    ghost use Rattle.target_desc.specs.Target.{IsTarget, IsOfVersion};
     ghost use Rattle.work_lang.specs.Workload.{IsWork};
 
-    /// The workload of a target, of these objects and scripts. A run puts the scripts back by it that it took out by
-    /// `into_parts`.
-    pub fn of_parts(target: Target, objects: Vec<Declared>, threads: Vec<Script>) -> Work
-        requires { IsWork (record { target = target; objects = objects.items; threads = map script_lines threads.items }) }
-        ensures value { result ≡ record { target = target; objects = objects.items; threads = map script_lines threads.items } }
+    /// The workload of a version, 1 or 2, with a target, these objects and scripts. A run puts the scripts back by it
+    /// that it took out by `into_parts`.
+    pub fn of_parts(
+        version: u32,
+        target: Target,
+        objects: Vec<Declared>,
+        threads: Vec<Script>,
+    ) -> Work
+        requires { IsWork (record { version = version; target = target; objects = objects.items; scripts = threads.items }) }
+        ensures value { result ≡ record { version = version; target = target; objects = objects.items; scripts = threads.items } }
         ensures kept { IsWork result }
     {
         Work {
+            version,
             target,
             objects,
             threads,
         }
     }
 
-    /// The target, the objects and the scripts, for a run that hands a script to each thread: nothing is copied, and
-    /// `of_parts` makes the workload again.
-    pub fn into_parts(self) -> (Target, Vec<Declared>, Vec<Script>)
-        ensures value { self ≡ record { target = result.0; objects = result.1.items; threads = map script_lines result.2.items } }
+    /// The version, the target, the objects and the scripts, for a run that hands a script to each thread: nothing is
+    /// copied, and `of_parts` makes the workload again.
+    pub fn into_parts(self) -> (u32, Target, Vec<Declared>, Vec<Script>)
+        ensures value { self ≡ record { version = result.0; target = result.1; objects = result.2.items; scripts = result.3.items } }
         ensures kept { IsWork self }
     {
-        (self.target, self.objects, self.threads)
+        (self.version, self.target, self.objects, self.threads)
+    }
+
+    /// The version of the language that the workload is written in: 1 or 2.
+    pub fn version(&self) -> u32
+        ensures value { result ≡ self.now.version }
+        ensures kept { IsWork self.now }
+    {
+        self.version
     }
 
     /// The target that the workload is written for.
@@ -62,18 +76,21 @@ impl Work {
         &self.target
     }
 
-    /// The same objects and scripts on another target.
+    /// The same objects and scripts on another target, which is one of the workload's version: in version 1 `big`
+    /// doesn't hold of it.
     pub fn with_target(self, target: Target) -> Work
-        requires { IsTarget target }
+        requires target { IsTarget target }
+        requires of_version { IsOfVersion self.version target }
         ensures value { result ≡ record self { target = target } }
         ensures kept { IsWork result }
     {
         let Work {
+            version,
             target: _,
             objects,
             threads,
         } = self;
-        Work::of_parts(target, objects, threads)
+        Work::of_parts(version, target, objects, threads)
     }
 
     /// The objects, in declared order.
@@ -84,9 +101,9 @@ impl Work {
         &self.objects
     }
 
-    /// The script of each thread, in order.
+    /// The script of each thread, in order; contracts see each as its list of pieces.
     pub fn threads(&self) -> &[Script]
-        ensures value { map script_lines result.now ≡ self.now.threads }
+        ensures value { result.now ≡ self.now.scripts }
         ensures kept { IsWork self.now }
     {
         &self.threads

@@ -3,7 +3,7 @@
 ghost use Rattle.place_core.specs.Shapes.{IsShape};
 
 use super::*;
-use op_table::{Call, StepSet, call_fits};
+use op_table::{Call, call_fits};
 use place_core::{Path, WordOp};
 
 /// A call on an object has a path, by the shape and by its plans.
@@ -54,11 +54,29 @@ fn a_sole_lane_at_the_top_has_every_step(rt: HostRuntime) -> Result<(), Fail> {
         (Call::BitSet(9), WordOp::Or(0x0200000000000000)),
         (Call::BitClear(9), WordOp::And(0xfdffffffffffffff)),
         (Call::BitToggle(9), WordOp::Xor(0x0200000000000000)),
+        (Call::AddFetch(3), WordOp::Add(0x0300000000000000)),
+        (Call::SubFetch(3), WordOp::Sub(0x0300000000000000)),
+        (Call::AndFetch(5), WordOp::And(0x05ffffffffffffff)),
+        (Call::OrFetch(5), WordOp::Or(0x0500000000000000)),
+        (Call::XorFetch(5), WordOp::Xor(0x0500000000000000)),
     ] {
         has_path(&rt, rt.alloc(), &shape, 0, call, Path::One(op))?;
     }
     has_path(&rt, rt.alloc(), &shape, 0, Call::Nand(5), Path::Loop)?;
+    has_path(&rt, rt.alloc(), &shape, 0, Call::NandFetch(5), Path::Loop)?;
     has_path(&rt, rt.alloc(), &shape, 0, Call::Neg(false), Path::Loop)?;
+    Ok(())
+}
+
+/// Of two bytes of a word the first is at the top where the lowest address lies highest, and so is added to in one
+/// step.
+#[test]
+fn a_big_lane_at_the_top_is_added_to_in_one_step(rt: HostRuntime) -> Result<(), Fail> {
+    let shape = laid_on(&rt, rt.alloc(), &big(64), &[U8, U8])?;
+    let add = Call::Add(10, false);
+    let one = Path::One(WordOp::Add(0x0a00000000000000));
+    has_path(&rt, rt.alloc(), &shape, 0, add, one)?;
+    has_path(&rt, rt.alloc(), &shape, 1, add, Path::Loop)?;
     Ok(())
 }
 
@@ -73,6 +91,7 @@ fn shared_lanes_have_masked_steps(rt: HostRuntime) -> Result<(), Fail> {
         (6, Call::CasWeak(1, 2), Path::Loop),
         (6, Call::Add(1, false), Path::Loop),
         (6, Call::Sub(1, false), Path::Loop),
+        (6, Call::AddFetch(1), Path::Loop),
         (6, Call::Max(5), Path::Loop),
         (6, Call::Min(5), Path::Loop),
         (
@@ -217,6 +236,7 @@ fn target_that_makes(word_bits: u32, made: [bool; 4]) -> Target {
         },
         locks: 67,
         section: false,
+        big: false,
     }
 }
 

@@ -42,6 +42,16 @@ fn each_class_is_written(rt: HostRuntime) -> Result<(), Fail> {
 }
 
 #[test]
+fn blocks_are_written_as_they_stand(rt: HostRuntime) -> Result<(), Fail> {
+    assert_canonical(
+        &rt,
+        rt.alloc(),
+        "work  2\ntarget 64 packed  swap+add+bits+order 67 locks big\nobject n u8 0\nthread\nrepeat:  300\nn  fetch_add 1 seq_cst\n# x\nend\nn load\nrepeat: 1\nn add_fetch 10\nn load acquire\nend\nrepeat: 4294967295\nend\nend",
+        "work 2\ntarget 64 packed swap+add+bits+order 67 locks big\nobject n u8 0\nthread\nrepeat: 300\nn fetch_add 1\nend\nn load\nrepeat: 1\nn add_fetch 10\nn load acquire\nend\nrepeat: 4294967295\nend\nend\n",
+    )
+}
+
+#[test]
 fn a_workload_may_be_empty(rt: HostRuntime) -> Result<(), Fail> {
     assert_canonical(
         &rt,

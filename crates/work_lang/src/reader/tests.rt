@@ -41,10 +41,12 @@ fn the_head_has_its_places(rt: HostRuntime) -> Result<(), Fail> {
 works 1 => 1 Version
 target full64 => 1 Version
 Work => 1 Version
-work 2 => 2 Version
+work 3 => 2 Version
 work 01 => 2 Version
-work 2 x => 2 Version
-work 1 1 => 3 Extra";
+work 3 x => 2 Version
+work 1 1 => 3 Extra
+work 2 2 => 3 Extra
+work 2 => 0 Missing";
     assert_places(&rt, rt.alloc(), "", 1, version)?;
     let target = "work 1 => 1 UnknownWord
 thread => 1 UnknownWord
@@ -54,6 +56,20 @@ target 64 => 2 BadTarget
 target full64 x => 2 BadTarget
 target word64 big => 2 BadTarget";
     assert_places(&rt, rt.alloc(), "work 1\n", 2, target)
+}
+
+/// All descriptions but the last one have a fault.
+fn assert_descriptions(
+    rt: &impl Abort,
+    alloc: Global,
+    before: &str,
+    rows: &str,
+) -> Result<(), Fail> {
+    let (refused, read) = rows.rsplit_once("\n").ok_or("one row")?;
+    assert_places(rt, alloc, before, 2, refused)?;
+    let (line, _) = read.split_once(" => ").ok_or("a row without a place")?;
+    let before = format!(in alloc; "{before}{line}\nthread\n")?;
+    assert_places(rt, alloc, &before, 3, " => 0 Unclosed")
 }
 
 #[test]
@@ -77,13 +93,17 @@ target 32 apart none 2 section => 6 BadTarget
 target 32 apart add 1 section x => 6 BadTarget
 target 32 apart none 1 section x => 7 Extra
 target 64 packed none 67 locks big => 7 Extra
+target 32 apart none 67 locks big => 7 Extra
 target 64  packed   order 67 locks => 0 Unclosed";
-    let alloc = rt.alloc();
-    let (refused, read) = rows.rsplit_once("\n").ok_or("one row")?;
-    assert_places(&rt, alloc, "work 1\n", 2, refused)?;
-    let (line, _) = read.split_once(" => ").ok_or("a row without a place")?;
-    let before = format!(in alloc; "work 1\n{line}\nthread\n")?;
-    assert_places(&rt, alloc, &before, 3, " => 0 Unclosed")
+    assert_descriptions(&rt, rt.alloc(), "work 1\n", rows)?;
+    let second = "target 32 apart none 67 locks big => 7 BadTarget
+target 32 apart none 67 locks big x => 7 BadTarget
+target 64 packed none 67 locks huge => 7 Extra
+target 64 packed none 67 locks big x => 8 Extra
+target 64 packed none 67 big => 6 BadTarget
+target word64 big => 2 BadTarget
+target 64 packed  swap+add 67 locks  big => 0 Unclosed";
+    assert_descriptions(&rt, rt.alloc(), "work 2\n", second)
 }
 
 #[test]
@@ -256,6 +276,101 @@ n {call} 3 4 {success} seq_cst => 0 Unclosed"
     Ok(())
 }
 
+const SECOND: &str = "work 2\ntarget full64\nobject n u8 0\nthread\n";
+
+/// A block is opened only in a thread of version 2, and not in another block.
+#[test]
+fn blocks_have_their_places(rt: HostRuntime) -> Result<(), Fail> {
+    let alloc = rt.alloc();
+    let rows = "repeat: => 2 Missing
+repeat: x => 2 BadNumber
+repeat: 02 => 2 BadNumber
+repeat: -1 => 2 OutOfRange
+repeat: 4294967296 => 2 OutOfRange
+repeat: 0 => 2 OutOfRange
+repeat: 0 x => 2 OutOfRange
+repeat: 2 x => 3 Extra
+repeat:2 => 1 UnknownName
+repeat 2 => 1 UnknownName
+repeat: 2 => 0 Unclosed";
+    assert_places(&rt, alloc, SECOND, 5, rows)?;
+    let nested = "repeat: => 1 UnknownWord
+repeat: x => 1 UnknownWord
+repeat: 2 => 1 UnknownWord
+thread => 1 UnknownName
+m load => 1 UnknownName
+end x => 2 Extra
+end => 0 Unclosed";
+    let before = format!(in alloc; "{SECOND}repeat: 300\n")?;
+    assert_places(&rt, alloc, &before, 6, nested)?;
+    let outside = "repeat: 2 => 1 UnknownWord
+repeat: => 1 UnknownWord";
+    assert_places(&rt, alloc, "work 2\ntarget full64\n", 3, outside)?;
+    assert_places(&rt, alloc, HEAD, 3, outside)?;
+    let between = format!(in alloc; "{SECOND}end\n")?;
+    assert_places(&rt, alloc, &between, 6, outside)?;
+    let first = "repeat: 300 => 1 UnknownName
+repeat: => 1 UnknownName";
+    assert_places(&rt, alloc, THREAD, 5, first)
+}
+
+/// The calls that answer the new value.
+#[test]
+fn later_words_are_of_version_2(rt: HostRuntime) -> Result<(), Fail> {
+    for word in [
+        "add_fetch",
+        "sub_fetch",
+        "and_fetch",
+        "nand_fetch",
+        "or_fetch",
+        "xor_fetch",
+    ] {
+        let first = format!(in rt.alloc();
+            "n {word} 1 => 2 UnknownWord\nn {word} => 2 UnknownWord"
+        )?;
+        assert_places(&rt, rt.alloc(), THREAD, 5, &first)?;
+        let second = format!(in rt.alloc();
+            "n {word} => 3 Missing
+n {word} 256 => 3 OutOfRange
+n {word} 1 1 => 4 Extra
+n {word} 1 acq_rel x => 5 Extra
+n {word} 1 acq_rel => 0 Unclosed"
+        )?;
+        assert_places(&rt, rt.alloc(), SECOND, 5, &second)?;
+    }
+    let classes = "work 2\ntarget full64\nobject f bool false\nobject p ptr 0x0\nthread\n";
+    let rows = "f add_fetch true => 2 NotForKind
+f sub_fetch true => 2 NotForKind
+f nand_fetch true => 0 Unclosed
+f xor_fetch 1 => 3 BadNumber
+p and_fetch 0x1 => 2 NotForKind
+p add_fetch 0x1 => 2 NotForKind";
+    assert_places(&rt, rt.alloc(), classes, 6, rows)
+}
+
+/// 300 calls of a block, and one call.
+#[test]
+fn blocks_are_pieces(rt: HostRuntime) -> Result<(), Fail> {
+    let text = format!(in rt.alloc();
+        "{SECOND}repeat: 300\nn fetch_add 1\nend\nn load\nrepeat: 4294967295\nend\nend\n"
+    )?;
+    let work = read_work(rt.alloc(), text.as_bytes())?;
+    assert_eq!(rt; work.version(), 2);
+    let script = work.threads().first().ok_or("no script")?;
+    assert_eq!(rt; script.pieces(), 3);
+    assert_eq!(rt; script.len(), 301);
+    for (number, call) in [
+        (0, Call::Add(1, false)),
+        (299, Call::Add(1, false)),
+        (300, Call::Load),
+    ] {
+        if number < script.len() {
+            assert_eq!(rt; script.at(number).call, call, "call {number}");
+        }
+    }
+    Ok(())
+}
+
 #[test]
 fn threads_follow_threads(rt: HostRuntime) -> Result<(), Fail> {
     let rows = "object m u64 5 => 1 UnknownWord
@@ -350,30 +465,75 @@ fn bytes_have_a_limit(rt: HostRuntime) -> Result<(), Fail> {
 
 #[test]
 fn objects_have_a_limit(rt: HostRuntime) -> Result<(), Fail> {
-    let mut text = String::from_str(rt.alloc(), HEAD)?;
-    for number in 0..1024 {
-        text.push_str(&format!(in rt.alloc(); "object o{number} u64 {number}\n")?)?;
-    }
-    assert!(rt; read_work(rt.alloc(), text.as_bytes()).is_ok());
-    let rows = "object m u64 0 => 1 Limit
+    for (version, most) in [(1, 1024), (2, 4096)] {
+        let mut text = format!(in rt.alloc(); "work {version}\ntarget full64\n")?;
+        for number in 0..most {
+            text.push_str(&format!(in rt.alloc(); "object o{number} u64 {number}\n")?)?;
+        }
+        assert!(rt; read_work(rt.alloc(), text.as_bytes()).is_ok());
+        let rows = "object m u64 0 => 1 Limit
 object => 1 Limit
 thread 1 => 2 Extra";
-    assert_places(&rt, rt.alloc(), &text, 1027, rows)
+        assert_places(&rt, rt.alloc(), &text, most + 3, rows)?;
+    }
+    Ok(())
 }
 
+/// The calls of a thread are 1,000,000 at most, and the limit is looked at in a call line: an empty block has none.
 #[test]
-fn calls_have_a_limit(rt: HostRuntime) -> Result<(), Fail> {
-    let mut text = String::from_str(rt.alloc(), THREAD)?;
-    for _ in 0..65_536 {
-        text.push_str("n load\n")?;
-    }
-    let rows = "n load => 1 Limit
+fn calls_of_blocks_have_a_limit(rt: HostRuntime) -> Result<(), Fail> {
+    let alloc = rt.alloc();
+    let past = "n load => 1 Limit
+n nosuch => 1 Limit
+m load => 1 UnknownName
+end => 0 Unclosed";
+    let too_often = format!(in alloc; "{SECOND}repeat: 1000001\n")?;
+    assert_places(&rt, alloc, &too_often, 6, past)?;
+    let most_often = format!(in alloc; "{SECOND}repeat: 4294967295\n")?;
+    assert_places(&rt, alloc, &most_often, 6, past)?;
+    let full = format!(in alloc; "{SECOND}repeat: 1000000\nn load\n")?;
+    assert_places(&rt, alloc, &full, 7, past)?;
+    let halves = format!(in alloc; "{SECOND}repeat: 500000\nn load\nn load\nend\n")?;
+    let closed = "n load => 1 Limit
 n nosuch => 1 Limit
 m load => 1 UnknownName
 end x => 2 Extra";
-    assert_places(&rt, rt.alloc(), &text, 65_541, rows)?;
-    text.push_str("end")?;
-    assert!(rt; read_work(rt.alloc(), text.as_bytes()).is_ok());
+    assert_places(&rt, alloc, &halves, 9, closed)?;
+    let one_left = format!(in alloc;
+        "{SECOND}repeat: 333333\nn load\nn load\nn load\nend\nrepeat: 1\n"
+    )?;
+    assert_places(&rt, alloc, &one_left, 11, "n load => 0 Unclosed")?;
+    let empty = format!(in alloc; "{SECOND}repeat: 4294967295\nend\nrepeat: 4294967295\nend\n")?;
+    assert_places(&rt, alloc, &empty, 9, "n load => 0 Unclosed")
+}
+
+/// Four threads of 1,000,000 calls, and one more thread.
+#[test]
+fn calls_of_all_blocks_have_a_limit(rt: HostRuntime) -> Result<(), Fail> {
+    let mut text = String::from_str(rt.alloc(), "work 2\ntarget full64\nobject n u8 0\n")?;
+    for _ in 0..4 {
+        text.push_str("thread\nrepeat: 1000000\nn load\nend\nend\n")?;
+    }
+    text.push_str("thread\n")?;
+    assert_places(&rt, rt.alloc(), &text, 25, "n load => 1 Limit")
+}
+
+/// In version 2 the call lines of a thread have the limit that its calls have in version 1.
+#[test]
+fn call_lines_have_a_limit(rt: HostRuntime) -> Result<(), Fail> {
+    for before in [THREAD, SECOND] {
+        let mut text = String::from_str(rt.alloc(), before)?;
+        for _ in 0..65_536 {
+            text.push_str("n load\n")?;
+        }
+        let rows = "n load => 1 Limit
+n nosuch => 1 Limit
+m load => 1 UnknownName
+end x => 2 Extra";
+        assert_places(&rt, rt.alloc(), &text, 65_541, rows)?;
+        text.push_str("end")?;
+        assert!(rt; read_work(rt.alloc(), text.as_bytes()).is_ok());
+    }
     Ok(())
 }
 

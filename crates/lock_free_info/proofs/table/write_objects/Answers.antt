@@ -26,6 +26,11 @@ returns-in-Err g c =
     (bytes_of c.first-item.result.kind) refl c.args.shape.now c.objects.number in
     wrote_stops {piece = object_lines c.args.target.now c.args.shape.now c.objects.number c.first-item.result c.next_address-address.result} _ step c.in-Err.is c.objects.invariant.wrote c.write_object.ensures
 
+pub overflow_add-after : goal.overflow_add-after
+overflow_add-after g c =
+    let few : next_address c.args.target.now c.objects.after c.first-item.result.kind + bytes_of c.first-item.result.kind ≤ c.objects.after + 32 = few_bytes c.args.target.now c.requires.target c.objects.after c.first-item.result.kind in
+    omega (arith, few, c.next_address-address.ensures, c.bytes.ensures, c.objects.invariant.room)
+
 pub objects-preserved : goal.objects-preserved
 objects-preserved g c =
     let few : next_address c.args.target.now c.objects.after c.first-item.result.kind + bytes_of c.first-item.result.kind ≤ c.objects.after + 32 = few_bytes c.args.target.now c.requires.target c.objects.after c.first-item.result.kind in

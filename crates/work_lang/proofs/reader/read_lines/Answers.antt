@@ -4,7 +4,7 @@ use Rattle.line_words.specs.Text.{lines_of}
 use Rattle.work_lang.specs.Workload.{Workload}
 use Rattle.work_lang.specs.Reading.{reading_of, Reads, Fault}
 use Rattle.work_lang.proofs.Keeping.{start_kept}
-use Rattle.work_lang.proofs.Items.{line_kept}
+use Rattle.work_lang.proofs.Items.{line_kept, line_pieces}
 use Rattle.work_lang.proofs.Runs.{goes_on, stops, is_done, reading_long, reading_is}
 use Rattle.work_lang.proofs.reader.read_lines.Goals as goal
 
@@ -12,7 +12,7 @@ pub returns-then-text-gt-MOST_BYTES-clause-exact : goal.returns-then-text-gt-MOS
 returns-then-text-gt-MOST_BYTES-clause-exact c = reading_long c.args.text.now (omega arith)
 
 pub lines-init : goal.lines-init
-lines-init c = record { kept = rw c.new-reader.ensures start_kept; so_far = rw c.new-reader.ensures (reading_is c.args.text.now (omega arith)); short = omega arith }
+lines-init c = record { kept = rw c.new-reader.ensures start_kept; so_far = rw c.new-reader.ensures (reading_is c.args.text.now (omega arith)); short = omega arith; few = rw c.new-reader.ensures (omega arith) }
 
 pub returns-in-Err-clause-exact : goal.returns-in-Err-clause-exact
 returns-in-Err-clause-exact c =
@@ -24,6 +24,7 @@ lines-preserved c =
       so_far = goes_on c.lines.reader c.take_line.new.self c.lines.number c.line_at.result.0.now (lines_of c.lines.rest.now) (lines_of c.line_at.result.1.now) (reading_of c.args.text.now) c.line_at.ensures.line c.in-Ok.ensures c.lines.invariant.so_far;
       kept = line_kept c.lines.reader c.line_at.result.0.now c.take_line.new.self c.lines.invariant.kept c.in-Ok.ensures;
       short = omega arith;
+      few = omega (arith, c.lines.invariant.few, line_pieces c.lines.reader c.line_at.result.0.now c.take_line.new.self c.lines.invariant.kept c.in-Ok.ensures);
     }
 
 pub returns-clause-exact : goal.returns-clause-exact

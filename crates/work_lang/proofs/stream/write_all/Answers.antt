@@ -1,18 +1,26 @@
-use Rattle.std.proofs.Common.{arith}
+use Rattle.std.proofs.Common.{◌≡◌, ◌≤◌, ◌∙◌, ap, length, length-drop, arith}
 use Rattle.std.proofs.lemmas.Bool.Decides.{nat_tests}
-use Rattle.work_lang.proofs.KnownSteps.{TookFront-more, TookFront-stops}
+use Rattle.work_lang.proofs.KnownSteps.{TookFront-more, TookFront-stops, Keeps-twice, length-rest}
 use Rattle.work_lang.proofs.stream.write_all.Goals as goal
 
--- there was something left to write, so that a front was taken, and not all
+-- there was something left to write, so that a front was taken, and not all; of a short piece nothing was taken before
 pub returns-in-Err : goal.returns-in-Err
 returns-in-Err g c = record {
   ok = tt;
   err = TookFront-stops _ (grind (arith, nat_tests)) c.writes.invariant.took c.in-Err.ensures.bytes;
+  whole = λ is short. Keeps-twice _ _ _ (c.writes.invariant.none is short (grind (arith, nat_tests))) c.in-Err.ensures.bytes;
+  kept = cc;
   cause = record { later = omega (arith, c.in-Err.ensures.cause.later); failed = omega (arith, c.in-Err.ensures.cause.failed); same = tt };
 }
 
+-- of a short piece the rest was taken at once
 pub writes-preserved : goal.writes-preserved
 writes-preserved g c = record {
   took = rw c.split_at.ensures.back (TookFront-more c.in-Ok.count c.writes.invariant.took c.in-Ok.ensures.bytes);
   same = omega (arith, c.in-Ok.ensures.cause.same);
+  kept = cc;
+  none = λ is short some.
+      let within : length c.writes.rest.now ≤ 256 = omega (arith, length-rest c.writes.invariant.took) in
+      let all : c.in-Ok.count ≡ length c.writes.rest.now = c.in-Ok.ensures.whole (c.writes.invariant.kept ∙ is) within in
+      absurd (omega (arith, ap length c.split_at.ensures.back, length-drop c.in-Ok.count c.writes.rest.now));
 }

@@ -1,0 +1,9 @@
+pub mod Sizes
+pub mod NameReading
+pub mod Soundness
+pub mod CellKinds
+pub mod CellShapes
+pub mod Finding
+pub mod Admitting
+pub mod Opening
+pub mod CellPlaces
