@@ -3,8 +3,8 @@
 
 Run it at the top of the repository after `rt run` has built crates/sized_times/out/sized_times. The sixteen operations in
 sizes 1, 8 and 16, or those named, as __atomic_fetch_add_8, are made on one thread (Debian's gcc has libatomic; what the
-machine's library hasn't is passed over). It prints the medians and their ratios, checks that both leave the same value,
-and adds rows to bench/results.csv.
+machine's library hasn't is passed over). The name `open` stands for a region of 65,536 cells that is opened once. It prints
+the medians and their ratios, checks that both leave the same value, and adds rows to bench/results.csv.
 """
 import hashlib
 import subprocess
@@ -21,8 +21,9 @@ OPERATIONS = (
     + [f"fetch_{word}" for word in FETCHED]
     + [f"{word}_fetch" for word in FETCHED]
 )
-NAMES = [f"__atomic_{operation}_{size}" for size in (1, 8, 16) for operation in OPERATIONS]
+NAMES = ["open"] + [f"__atomic_{operation}_{size}" for size in (1, 8, 16) for operation in OPERATIONS]
 TIMES = 5_000_000
+CELLS = 65_536
 # the peer's status where the library hasn't the function
 WANTING = 3
 
@@ -44,13 +45,14 @@ def main() -> None:
                 print(f"{name}: libatomic of this machine hasn't it")
                 continue
             ours, theirs = [], []
+            number = str(CELLS if name == "open" else TIMES)
             for _ in range(measure.RUNS):
-                ours.append(measure.done(launcher, [PROGRAM, name, str(TIMES)], nothing))
-                theirs.append(measure.done(launcher, [peer, name, str(TIMES)], nothing))
+                ours.append(measure.done(launcher, [PROGRAM, name, number], nothing))
+                theirs.append(measure.done(launcher, [peer, name, number], nothing))
             if len({one.written for one in ours + theirs}) != 1:
                 sys.exit(f"{name}: the values differ")
             checksum = hashlib.sha256(ours[0].written).hexdigest()[:16]
-            short = name.removeprefix("__atomic_")
+            short = "open_cells" if name == "open" else name.removeprefix("__atomic_")
             measure.keep("results.csv", measure.COLUMNS, measure.compared(short, 0, checksum, ours, theirs))
 
 

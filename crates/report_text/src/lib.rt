@@ -1,6 +1,7 @@
 //! The report of a run: each call with its reply, and the last values; and the last values of a generated run.
 #![tactic(auto)]
 
+mod call_text;
 pub mod laws;
 mod many;
 mod replies;

@@ -9,34 +9,57 @@ ghost use Rattle.place_core.specs.DeclaredObjects.{IsDeclared};
 ghost use Rattle.place_core.specs.Pieces.{script_lines};
 ghost use Rattle.work_lang.specs.Workload.{threads_of, LineFits, HasLine};
 ghost use Rattle.work_lang.specs.Reading.{kind_at};
-ghost use Rattle.report_text.specs.Report.{reply_line, reply_lines, thread_head, thread_lines, last_line, last_lines, lines_with, AnswerLines, AnswerThreads, AnswerObjects, items_of};
+ghost use Rattle.report_text.specs.CallTexts.{IsTextOf};
+ghost use Rattle.report_text.specs.Report.{reply_text, reply_line, reply_lines, thread_head, thread_lines, last_line, last_lines, lines_with, AnswerLines, AnswerThreads, AnswerObjects, items_of};
 
+use crate::call_text::CallText;
 use crate::replies::{push_fixed, push_reply};
 use ledger_sums::Fixed;
-use op_table::{LineBuf, Reply};
+use op_table::{Kind, LineBuf, Reply};
 use place_core::{Declared, Line, Replies, Script};
-use work_lang::{Sink, Work, WriteEnd, push_call, write_line, write_target};
+use work_lang::{Sink, Work, WriteEnd, write_line, write_target};
 
-/// Writes a call with its reply.
-fn write_reply<K: Sink>(
-    objects: &[Declared],
-    line: &Line,
+/// Writes the text of a call with its reply.
+fn write_answered<K: Sink>(
+    call: &CallText,
+    kind: Kind,
     reply: &Reply,
+    out: &mut LineBuf,
     sink: &mut K,
 ) -> Result<(), WriteEnd>
-    requires line { IsSomeAnd (slice_get objects.now line.now.object) (λ d. IsKind d.kind × HasLine line.now d) }
-    requires fits { ReplyFits (kind_at objects.now line.now.object) reply.now }
-    ensures { Writes K.taken K.faults K.whole sink.old sink.new result (reply_line objects.now line.now reply.now ∷ []) }
+    requires kind { IsKind kind }
+    requires fits { ReplyFits kind reply.now }
+    requires short { length call.now.text ≤ 139 }
+    ensures { Writes K.taken K.faults K.whole sink.old sink.new result ((call.now.text ++ reply_text kind reply.now ++ 10 ∷ []) ∷ []) }
 {
-    let mut out = LineBuf::new();
-    push_call(&mut out, objects, line);
-    out.push_text(b" = ");
-    push_reply(&mut out, objects[line.object as usize].kind, reply);
+    out.clear();
+    out.push_text(call.bytes());
+    push_reply(out, kind, reply);
     out.push_text(b"\n");
     write_line(out.bytes(), sink)
 }
 
-/// Writes the calls of a thread with their replies.
+/// Writes a call with its reply. The call's text stands in `call` where that was made for the same line.
+fn write_reply<K: Sink>(
+    objects: &[Declared],
+    line: &Line,
+    reply: &Reply,
+    call: &mut CallText,
+    out: &mut LineBuf,
+    sink: &mut K,
+) -> Result<(), WriteEnd>
+    requires line { IsSomeAnd (slice_get objects.now line.now.object) (λ d. IsKind d.kind × HasLine line.now d) }
+    requires fits { ReplyFits (kind_at objects.now line.now.object) reply.now }
+    requires text { IsTextOf objects.now call.old }
+    ensures wrote { Writes K.taken K.faults K.whole sink.old sink.new result (reply_line objects.now line.now reply.now ∷ []) }
+    ensures text { IsTextOf objects.now call.new }
+{
+    call.turn_to(objects, line);
+    write_answered(call, objects[line.object as usize].kind, reply, out, sink)
+}
+
+/// Writes the calls of a thread with their replies. The text of a call is made once for as long as the same line comes
+/// again, as in a block of one line.
 fn write_calls<K: Sink>(
     objects: &[Declared],
     script: &Script,
@@ -49,11 +72,13 @@ fn write_calls<K: Sink>(
     ensures { Writes K.taken K.faults K.whole sink.old sink.new result (reply_lines objects.now (script_lines script.now) replies.now.items) }
 {
     let mut lines = script.lines();
+    let mut call = CallText::new();
+    let mut out = LineBuf::new();
     'calls: for i in 0..replies.len() {
         let Some(line) = lines.next() else {
             unreachable!()
         };
-        match write_reply(objects, line, replies.at(i), sink) {
+        match write_reply(objects, line, replies.at(i), &mut call, &mut out, sink) {
             Ok(()) => {}
             Err(end) => return Err(end),
         }

@@ -1,10 +1,11 @@
-//! Makes one sized call many times: `bench/sized.py` times it beside libatomic's own function.
+//! Makes one sized call many times, or opens a region of many cells: `bench/sized.py` times both beside plain C.
 #![tactic(auto)]
 
 ghost use Rattle.std.specs.Prelude.{IfSome};
 ghost use Rattle.seat_views.specs.Trials.{IsReady, IsReadyRoot};
 
 use op_table::Reply;
+use place_core::MOST_IN_SHAPE;
 use seat_views::Root;
 use sized_calls::{Cell, Region, SizedCall, SizedFault, SizedOp, read_name};
 use std::alloc::Global;
@@ -12,11 +13,13 @@ use std::process::ExitCode;
 use std::sync::Wait;
 use target_desc::{builtin, target_ok};
 
-/// What the words ask for: the call, and how often it is made.
+/// What the words ask for.
 #[derive(Clone, Copy)]
-struct Task {
-    call: SizedCall,
-    times: u64,
+enum Task {
+    /// A call, so many times.
+    Call(SizedCall, u64),
+    /// A region of so many cells.
+    Open(u32),
 }
 
 /// A call with the operand 3. An exchange that compares changes 0 to 0, so that it never fails on the object.
@@ -56,44 +59,81 @@ fn turns<R: Wait>(
     rt: &R,
     region: &Region,
     root: &mut Root,
-    task: Task,
+    call: SizedCall,
+    times: u64,
 ) -> Option<Result<Reply, SizedFault>>
     requires { IsReadyRoot region.now.arena root.old }
 {
     let mut pass = root.pass(region.arena()).ok()?;
-    for _ in 0..task.times {
-        let _ = region.call(rt, &mut pass, &task.call);
+    for _ in 0..times {
+        let _ = region.call(rt, &mut pass, &call);
     }
     let load = SizedCall {
         op: SizedOp::Load,
-        ..task.call
+        ..call
     };
     Some(region.call(rt, &mut pass, &load))
 }
 
-/// The call of the function with a name, and how often it is made.
+/// What the object has after so many of these calls; None where memory is refused.
+fn value_after<R: Wait>(rt: &R, alloc: Global, call: SizedCall, times: u64) -> Option<u128> {
+    let (region, mut root) = open(alloc)?;
+    match turns(rt, &region, &mut root, call, times)? {
+        Ok(Reply::Value(last)) => Some(last),
+        _ => None,
+    }
+}
+
+/// So many cells, one every 16 bytes, of each size in turn.
+fn many_cells(alloc: Global, count: u32) -> Option<Vec<Cell>> {
+    let mut cells = Vec::with_capacity(alloc, count as usize).ok()?;
+    for number in 0..count {
+        let cell = Cell {
+            address: 16 * u64::from(number),
+            size: 1 << (number % 5),
+            start: 0,
+        };
+        cells.push(cell).ok()?;
+    }
+    Some(cells)
+}
+
+/// How many objects the arena of a region of so many cells has; None where there are too many, or memory is refused.
+fn objects_of(alloc: Global, count: u32) -> Option<u128> {
+    let target = builtin(b"word64")?;
+    let cells = many_cells(alloc, count)?;
+    if !target_ok(&target) || !target.packed || cells.len() > MOST_IN_SHAPE {
+        return None;
+    }
+    let (region, _root) = Region::open(alloc, &target, &cells).ok()?;
+    Some(region.arena().shape().objects.len() as u128)
+}
+
+/// `open COUNT`, or the name of a function and how often it is called.
 fn task_in(rt: &HostRuntime) -> Option<Task> {
     let mut words = std::env::args(rt).ok()?;
-    let (op, size) = read_name(words.nth(1)?.as_bytes())?;
-    let times = words.next()?.parse::<u64>().ok()?;
-    Some(Task {
-        call: call_with(op, size),
-        times,
-    })
+    let name = words.nth(1)?;
+    let number = words.next()?;
+    if name.as_str() == "open" {
+        return Some(Task::Open(number.parse::<u32>().ok()?));
+    }
+    let (op, size) = read_name(name.as_bytes())?;
+    Some(Task::Call(call_with(op, size), number.parse::<u64>().ok()?))
 }
 
 fn main(rt: HostRuntime) -> ExitCode {
     let Some(task) = task_in(&rt) else {
-        let _ = eprintln!(rt; "usage: sized_times NAME TIMES");
+        let _ = eprintln!(rt; "usage: sized_times NAME TIMES | open CELLS");
         return ExitCode::from(2);
     };
-    let Some((region, mut root)) = open(rt.alloc()) else {
+    let told = match task {
+        Task::Call(call, times) => value_after(&rt, rt.alloc(), call, times),
+        Task::Open(count) => objects_of(rt.alloc(), count),
+    };
+    let Some(number) = told else {
         return ExitCode::from(5);
     };
-    let Some(Ok(Reply::Value(last))) = turns(&rt, &region, &mut root, task) else {
-        return ExitCode::from(5);
-    };
-    let (high, low) = ((last >> 64) as u64, (last % (1 << 64)) as u64);
+    let (high, low) = ((number >> 64) as u64, (number % (1 << 64)) as u64);
     match println!(rt; "{high} {low}") {
         Ok(()) => ExitCode::from(0),
         Err(_) => ExitCode::from(4),

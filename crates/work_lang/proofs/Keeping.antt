@@ -22,7 +22,7 @@ use Rattle.work_lang.specs.Kept.{Allowed, IsBetween, IsEmptyYet, IsKept}
 use Rattle.work_lang.proofs.Lists.{all_push}
 use Rattle.work_lang.proofs.Scripts.{written_more, made_more, made_by_block, room_within, so_far, pieces_with, block_with, written_with, made_with, stand_with}
 
-declared_push : (before objects : List Declared) (d : Declared) → AreDeclared before objects → is_name d.name ≡ true → object_of (before ++ objects) d.name ≡ None → AreDeclared before (objects ++ d ∷ [])
+pub declared_push : (before objects : List Declared) (d : Declared) → AreDeclared before objects → is_name d.name ≡ true → object_of (before ++ objects) d.name ≡ None → AreDeclared before (objects ++ d ∷ [])
 declared_push before [] d all named new = (named, subst (λ (objects : List Declared). object_of objects d.name ≡ None) (append-nil before) new, tt)
 declared_push before (x ∷ xs) d all named new =
     (all.0, all.1, declared_push (before ++ x ∷ []) xs d all.2 named (subst (λ (objects : List Declared). object_of objects d.name ≡ None) (sym (append_assoc before (x ∷ []) xs)) new))

@@ -25,7 +25,7 @@ write_reply-requires-clause-fits g c =
 pub returns-in-Err : goal.returns-in-Err
 returns-in-Err g c =
     let step = reply_lines_next c.args.objects.now c.calls.lines c.next.new.self c.args.replies.now.items c.calls.i c.in-Some.line.now c.at.result.now c.in-Some.ensures.line c.at.ensures in
-    wrote_stops {lines = reply_lines c.args.objects.now (script_lines c.args.script.now) c.args.replies.now.items} _ step c.in-Err.is c.calls.invariant.wrote c.write_reply.ensures
+    wrote_stops {lines = reply_lines c.args.objects.now (script_lines c.args.script.now) c.args.replies.now.items} _ step c.in-Err.is c.calls.invariant.wrote c.write_reply.ensures.wrote
 
 pub calls-preserved : goal.calls-preserved
 calls-preserved g c =
@@ -33,7 +33,8 @@ calls-preserved g c =
     record {
       fits = (subst (λ ls. AllByRecursion (LineFits c.args.objects.now) ls) c.in-Some.ensures.line c.calls.invariant.fits).1;
       answers = (answers_next c.args.objects.now c.calls.lines c.next.new.self c.args.replies.now.items c.calls.i c.in-Some.line.now c.at.result.now c.in-Some.ensures.line c.at.ensures c.calls.invariant.answers).1;
-      wrote = wrote_more step c.in-Ok.is c.calls.invariant.wrote c.write_reply.ensures;
+      text = c.write_reply.ensures.text;
+      wrote = wrote_more step c.in-Ok.is c.calls.invariant.wrote c.write_reply.ensures.wrote;
     }
 
 pub returns : goal.returns
