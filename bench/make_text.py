@@ -1,7 +1,7 @@
 #!/usr/bin/env python3
 """The workloads of the bench: `make_text.py NAME` writes one to standard output.
 
-A name gives the same bytes every time. `many` has none: the programs draw its calls themselves.
+A name gives the same bytes every time. `many` and `many_word32` have none: the programs draw their calls.
 """
 import random
 import sys
@@ -197,6 +197,7 @@ WORKLOADS = {
     "full": lambda: full(16, 62_500, 1_024, 4),
     "full_blocks": lambda: full_blocks(64, 62_500, 7),
     "many": lambda: "",
+    "many_word32": lambda: "",
     "u128_additions": lambda: additions("full64", "object w u128 18446744073709551615", 48, 5),
     "u8_additions": lambda: additions("word64", "object c u8 250", 8, 6),
 }

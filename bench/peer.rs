@@ -3,9 +3,12 @@
 //!
 //! It reads all of standard input, makes the same checks, runs each script on a thread of its own and writes the same
 //! report. With the words `many SEED THREADS CALLS` it draws the same workload in place of reading one, runs it without
-//! keeping replies, and writes the last values. Objects are the processor's own atomics, whatever the target, so nothing waits for a lock; those of 128 bits
-//! are served by `cmpxchg16b`, and loaded by 16-byte moves where the processor has AVX. Every access is sequentially
-//! consistent, whichever order the call asks for, as in the proved program. A fault ends it with status 1.
+//! keeping replies, and writes the last values. Objects are the processor's own atomics, whatever the target, so nothing
+//! waits for a lock; those of 128 bits are served by `cmpxchg16b`, and loaded by 16-byte moves where the processor has
+//! AVX. With `many_word32` in place of `many` the objects lie in words of 32 bits, as that workload's target has them, and
+//! each call is made by the same steps as in the proved program: by one step on a word, by a loop of exchanges of its
+//! lane, or under a lock. Every access is sequentially consistent, whichever order the call asks for, as in the proved
+//! program. A fault ends it with status 1.
 
 use std::arch::x86_64::{
     __m128i, _mm_cmpeq_epi8, _mm_loadu_si128, _mm_min_epu8, _mm_movemask_epi8, _mm_set1_epi8, _mm_sub_epi8,
@@ -1310,6 +1313,116 @@ fn draw_work(seed: u64, threads: u32, calls: u32) -> Work {
     }
 }
 
+/// The objects of a generated workload in words of 32 bits: lanes that share words, and two objects of several words,
+/// each under a lock of its own, which has 1 while it is held and else its stamp.
+struct Words32 {
+    words: [AtomicU32; 12],
+    locks: [Lock; 2],
+}
+
+/// In a cache line of its own.
+#[repr(align(64))]
+#[derive(Default)]
+struct Lock(AtomicU64);
+
+impl Words32 {
+    fn new() -> Words32 {
+        let words: [AtomicU32; 12] = Default::default();
+        words[6].store(65_535 << 16, SeqCst);
+        Words32 { words, locks: Default::default() }
+    }
+
+    /// Exchanges a lane of 8 or 16 bits until an exchange is made.
+    #[inline]
+    fn by_loop(&self, word: usize, shift: u32, mask: u32, new: impl Fn(u32) -> u32) -> u32 {
+        let cell = &self.words[word];
+        let mut found = cell.load(SeqCst);
+        loop {
+            let value = found >> shift & mask;
+            let wanted = found & !(mask << shift) | (new(value) & mask) << shift;
+            match cell.compare_exchange(found, wanted, SeqCst, SeqCst) {
+                Ok(_) => return value,
+                Err(other) => found = other,
+            }
+            std::hint::spin_loop();
+        }
+    }
+
+    /// Reads and stores every word of an object under its lock, and moves the stamp on.
+    #[inline]
+    fn locked(&self, lock: usize, words: std::ops::Range<usize>, new: impl Fn(u128) -> u128) -> u128 {
+        let stamp = self.take(&self.locks[lock].0);
+        let words = &self.words[words];
+        let value = words.iter().rev().fold(0, |value, word| value << 32 | u128::from(word.load(SeqCst)));
+        let wanted = new(value);
+        for (place, word) in words.iter().enumerate() {
+            word.store((wanted >> (32 * place)) as u32, SeqCst);
+        }
+        self.locks[lock].0.store(stamp + 2, SeqCst);
+        value
+    }
+
+    /// Swaps 1 into the lock until it had a stamp: pauses longer each time, and then lets other threads go first.
+    #[inline]
+    fn take(&self, lock: &AtomicU64) -> u64 {
+        let mut tries = 0;
+        loop {
+            let stamp = lock.swap(1, SeqCst);
+            if stamp != 1 {
+                return stamp;
+            }
+            if tries <= 6 {
+                (0..1 << tries).for_each(|_| std::hint::spin_loop());
+                tries += 1;
+            } else {
+                std::thread::yield_now();
+            }
+        }
+    }
+
+    /// Makes a drawn call: each object has one operation.
+    #[inline]
+    fn call(&self, line: &Line) -> u128 {
+        let a = line.operands[0];
+        let low = a as u32;
+        match line.object {
+            0 => u128::from(self.by_loop(0, 0, 0xff, |value| value.wrapping_add(low))),
+            1 => u128::from(self.by_loop(0, 16, 0xffff, |value| value.wrapping_sub(low))),
+            2 => u128::from(self.words[1].fetch_max(low, SeqCst)),
+            3 => {
+                // SAFETY: the word lives, and is only accessed by atomic steps
+                let word = unsafe { AtomicI32::from_ptr(self.words[2].as_ptr().cast()) };
+                u128::from(word.fetch_min(low as i32, SeqCst) as u32)
+            }
+            4 => self.locked(0, 4..6, |value| value ^ a),
+            5 => u128::from(self.words[6].fetch_or(low, SeqCst) & 0xff),
+            6 => u128::from(self.words[6].fetch_and(low << 16 | 0xffff, SeqCst) >> 16),
+            _ => self.locked(1, 8..12, |value| value.wrapping_add(a)),
+        }
+    }
+
+    /// The value of each object.
+    fn last(&self) -> Vec<u128> {
+        let word = |place: usize| u128::from(self.words[place].load(SeqCst));
+        let joined = |first: usize, count: usize| (0..count).map(|place| word(first + place) << (32 * place)).sum();
+        let (shared, other) = (word(0), word(6));
+        vec![shared & 0xff, shared >> 16, word(1), word(2), joined(4, 2), other & 0xff, other >> 16, joined(8, 4)]
+    }
+
+    /// Runs each script on a thread of its own, without its replies.
+    fn run(&self, work: &Work) {
+        std::thread::scope(|scope| {
+            for script in &work.threads {
+                scope.spawn(move || {
+                    for line in &script.lines {
+                        std::hint::black_box(self.call(line));
+                    }
+                });
+            }
+        });
+    }
+}
+
 // ---------------------------------------------------------------------------------------------------------------------
 // Printing
 
@@ -1554,7 +1667,7 @@ impl Out {
         Ok(())
     }
 
-    fn drawn(&mut self, words: &[String], work: &Work, last: &[u128]) -> io::Result<()> {
+    fn drawn(&mut self, words: &[&str], work: &Work, last: &[u128]) -> io::Result<()> {
         for byte in words.join(" ").bytes() {
             self.all(&[byte]);
         }
@@ -1583,7 +1696,21 @@ fn read_all() -> io::Result<(Vec<u8>, usize)> {
     Ok((text, length))
 }
 
-/// The command `many`, with its words.
+/// The last values of a run on the processor's own atomics.
+fn run_on_own(work: &Work) -> Vec<u128> {
+    let cells: Vec<Cell> = work.objects.iter().map(Cell::of).collect();
+    run_untold(work, &cells);
+    cells.iter().map(Cell::load).collect()
+}
+
+/// The last values of a run on words of 32 bits.
+fn run_on_words(work: &Work) -> Vec<u128> {
+    let words = Words32::new();
+    words.run(work);
+    words.last()
+}
+
+/// The command `many` or `many_word32`, with its words.
 fn many(words: &[String]) -> io::Result<ExitCode> {
     let number = |place: usize, bits: u32| words.get(place).and_then(|word| read_integer(word.as_bytes(), bits, false).ok());
     let (Some(seed), Some(threads), Some(calls), 4) = (number(1, 64), number(2, 32), number(3, 32), words.len()) else {
@@ -1594,17 +1721,16 @@ fn many(words: &[String]) -> io::Result<ExitCode> {
         return Ok(ExitCode::from(2));
     }
     let work = draw_work(seed as u64, threads as u32, calls as u32);
-    let cells: Vec<Cell> = work.objects.iter().map(Cell::of).collect();
-    run_untold(&work, &cells);
-    let last: Vec<u128> = cells.iter().map(Cell::load).collect();
-    Out::new().drawn(words, &work, &last)?;
+    let last = if words[0] == "many" { run_on_own(&work) } else { run_on_words(&work) };
+    let told = ["many", &words[1], &words[2], &words[3]];
+    Out::new().drawn(&told, &work, &last)?;
     Ok(ExitCode::SUCCESS)
 }
 
 fn main() -> io::Result<ExitCode> {
     assert!(std::is_x86_feature_detected!("cmpxchg16b"), "the peer needs cmpxchg16b");
     let words: Vec<String> = std::env::args().skip(1).collect();
-    if words.first().is_some_and(|word| word == "many") {
+    if words.first().is_some_and(|word| word == "many" || word == "many_word32") {
         return many(&words);
     }
     assert!(words.is_empty() || words == ["run"], "the peer serves `run` and `many`");

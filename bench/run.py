@@ -34,8 +34,13 @@ def calls(report: bytes) -> bytes:
     return re.sub(found, rb"\1\2", report)
 
 
-# the words of both programs, where they aren't `run`
-WORDS = {"many": ["many", "7", "16", "62500"]}
+# the words of the program and of its peer, where they aren't `run`
+NUMBERS = ["7", "16", "62500"]
+WORDS = {
+    "many": (["many", *NUMBERS], ["many", *NUMBERS]),
+    "many_word32": (["many", *NUMBERS], ["many_word32", *NUMBERS]),
+}
+RUN = (["run"], ["run"])
 # what of a report is a function of the workload
 SAME = {"full": calls, "u128_additions": last, "u8_additions": last}
 
@@ -43,10 +48,12 @@ SAME = {"full": calls, "u128_additions": last, "u8_additions": last}
 def side_by_side(launcher: Path, peer: Path, program: Path, name: str, text: Path) -> tuple:
     """The runs of both programs, in turns. Whatever must be equal is compared at each run; the calls, which take long to
     take out of a report, at the first alone."""
-    same, words = SAME.get(name, whole), WORDS.get(name, ["run"])
+    same = SAME.get(name, whole)
+    own, others = WORDS.get(name, RUN)
     ours, theirs = [], []
     for number in range(measure.RUNS):
-        one, other = (measure.done(launcher, [each, *words], text) for each in (program, peer))
+        one = measure.done(launcher, [program, *own], text)
+        other = measure.done(launcher, [peer, *others], text)
         if (number == 0 or same is not calls) and same(one.written) != same(other.written):
             sys.exit(f"{name}: the reports differ")
         ours.append(one._replace(written=b""))

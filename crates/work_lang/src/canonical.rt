@@ -215,9 +215,8 @@ fn write_threads<K: Sink>(
 
 /// Writes the one canonical text of a workload, line by line, each with its end as one piece: without comments, empty
 /// lines and spare spaces, the target by its name where it has one, and without orders that may be left out. Blocks are
-/// written as they stand. Where that
-/// text has at most 8,388,608 bytes, `read_work` reads the workload back from it. It takes no memory. At Fault, which
-/// comes only where the sink's count rose, what was taken is a front of the text.
+/// written as they stand. Where that text has at most 8,388,608 bytes, `read_work` reads the workload back from it. It
+/// takes no memory. At Fault, which comes only where the sink's count rose, what was taken is a front of the text.
 pub fn print_work<K: Sink>(work: &Work, sink: &mut K) -> Result<(), WriteEnd>
     ensures { Writes K.taken K.faults K.whole sink.old sink.new result (canonical_lines work.now) }
 {

@@ -165,6 +165,8 @@ fn number(kind: Kind, words: &mut Words<'_>) -> Result<u128, Slip>
     Ok(n)
 }
 
+/// The number that a word spells as a value of u32: the position of a bit, or how often a block is made. BadNumber where it
+/// isn't the text of a number, OutOfRange where the number is 2^32 or more.
 pub fn read_position(text: &[u8]) -> Result<u32, ValueFault>
     ensures { result ≡ parsed_value position_kind text.now }
 {
