@@ -1,4 +1,4 @@
-use Rattle.std.proofs.Common.{◌∙◌, arith}
+use Rattle.std.proofs.Common.{◌∙◌, [], arith}
 use Rattle.place_core.specs.DeclaredObjects.{IsDeclared}
 use Rattle.work_lang.proofs.Indexes.{index_more}
 use Rattle.work_lang.proofs.Keeping.{declared_push}
