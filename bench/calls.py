@@ -6,7 +6,6 @@ beside std's atomics; calls on a u128 beside the steps of the sequence lock writ
 (Debian's gcc has it). Each is made on one, two and four threads. It prints the medians and their ratios, checks that both
 leave the same values, and adds rows to bench/results.csv.
 """
-import hashlib
 import subprocess
 import sys
 import tempfile
@@ -38,7 +37,6 @@ def build_peer(folder: Path) -> Path:
 
 def main() -> None:
     measure.need(PROGRAM, "cd crates/call_times && rt run")
-    nothing = Path("/dev/null")
     with tempfile.TemporaryDirectory() as folder:
         launcher = measure.build_launcher(Path(folder))
         program = build_peer(Path(folder))
@@ -46,13 +44,8 @@ def main() -> None:
             for peer in CALLS[call]:
                 for threads, times in TIMES.items():
                     words = [call, str(threads), str(times)]
-                    ours, theirs = [], []
-                    for _ in range(measure.RUNS):
-                        ours.append(measure.done(launcher, [PROGRAM, *words], nothing))
-                        theirs.append(measure.done(launcher, [program, peer, *words], nothing))
-                    if len({one.written for one in ours + theirs}) != 1:
-                        sys.exit(f"{call}: the values differ")
-                    checksum = hashlib.sha256(ours[0].written).hexdigest()[:16]
+                    own, other = [PROGRAM, *words], [program, peer, *words]
+                    ours, theirs, checksum = measure.in_turns(launcher, own, other, call)
                     name = f"{call}_{threads}_{peer}"
                     measure.keep("results.csv", measure.COLUMNS, measure.compared(name, 0, checksum, ours, theirs))
 

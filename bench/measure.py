@@ -1,6 +1,7 @@
 """What the scripts of the bench share: building, one run of a program, and rows."""
 import csv
 import datetime
+import hashlib
 import os
 import statistics
 import subprocess
@@ -67,6 +68,18 @@ def done(launcher: Path, command: list, given: Path) -> Run:
     if one.status != 0:
         sys.exit(f"{command} on {given.name} ended with status {one.status}: {one.written[:80]}")
     return one
+
+
+def in_turns(launcher: Path, own: list, other: list, what: str) -> tuple:
+    """The runs of two programs that read nothing, in turns, and the head of the SHA-256 of what each of them must write."""
+    nothing = Path("/dev/null")
+    ours, theirs = [], []
+    for _ in range(RUNS):
+        ours.append(done(launcher, own, nothing))
+        theirs.append(done(launcher, other, nothing))
+    if len({one.written for one in ours + theirs}) != 1:
+        sys.exit(f"{what}: the values differ")
+    return ours, theirs, hashlib.sha256(ours[0].written).hexdigest()[:16]
 
 
 def median(runs: list, column: str) -> float:

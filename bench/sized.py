@@ -6,7 +6,6 @@ sizes 1, 8 and 16, or those named, as __atomic_fetch_add_8, are made on one thre
 machine's library hasn't is passed over). The name `open` stands for a region of 65,536 cells that is opened once. It prints
 the medians and their ratios, checks that both leave the same value, and adds rows to bench/results.csv.
 """
-import hashlib
 import subprocess
 import sys
 import tempfile
@@ -36,22 +35,15 @@ def build_peer(folder: Path) -> Path:
 
 def main() -> None:
     measure.need(PROGRAM, "cd crates/sized_times && rt run")
-    nothing = Path("/dev/null")
     with tempfile.TemporaryDirectory() as folder:
         launcher = measure.build_launcher(Path(folder))
         peer = build_peer(Path(folder))
         for name in sys.argv[1:] or NAMES:
-            if measure.run(launcher, [peer, name, "1"], nothing).status == WANTING:
+            if measure.run(launcher, [peer, name, "1"], Path("/dev/null")).status == WANTING:
                 print(f"{name}: libatomic of this machine hasn't it")
                 continue
-            ours, theirs = [], []
-            number = str(CELLS if name == "open" else TIMES)
-            for _ in range(measure.RUNS):
-                ours.append(measure.done(launcher, [PROGRAM, name, number], nothing))
-                theirs.append(measure.done(launcher, [peer, name, number], nothing))
-            if len({one.written for one in ours + theirs}) != 1:
-                sys.exit(f"{name}: the values differ")
-            checksum = hashlib.sha256(ours[0].written).hexdigest()[:16]
+            words = [name, str(CELLS if name == "open" else TIMES)]
+            ours, theirs, checksum = measure.in_turns(launcher, [PROGRAM, *words], [peer, *words], name)
             short = "open_cells" if name == "open" else name.removeprefix("__atomic_")
             measure.keep("results.csv", measure.COLUMNS, measure.compared(short, 0, checksum, ours, theirs))
 
