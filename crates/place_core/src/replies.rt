@@ -37,6 +37,7 @@ impl Replies {
     }
 
     /// Adds a reply at the end. It takes no memory.
+    #[inline(always)]
     pub fn push(&mut self, reply: Reply)
         requires { 0 < self.old.spare }
         ensures items { self.new.items ≡ self.old.items ++ reply ∷ [] }

@@ -226,6 +226,7 @@ impl Script {
     }
 
     /// Adds a line at the end. Where memory is wanting the script stays as it was.
+    #[inline]
     pub fn push(&mut self, line: Line) -> Result<(), NoMemory>
         requires lines { length (script_lines self.old) < 2 ^ 32 - 1 }
         requires pieces { length self.old < 2 ^ 32 - 1 }

@@ -34,6 +34,7 @@ pub(crate) struct Cell {
 
 /// Where an object's parts are.
 #[tactic(auto, using(crate::proofs::Spots::parts_facts))]
+#[inline(always)]
 pub(crate) fn parts_cell(arena: &Arena, object: u32) -> Cell
     requires { HasParts arena.now.shape object }
     ensures place { IsCell arena.now.shape object result }
@@ -63,6 +64,7 @@ pub(crate) fn parts_cell(arena: &Arena, object: u32) -> Cell
 
 #[tactic(auto, using(crate::proofs::Joining::join_none, crate::proofs::Joining::join_more, crate::proofs::Joining::part_ends, crate::proofs::Joining::bits_more, crate::proofs::Joining::bits_none))]
 /// The number whose parts these are.
+#[inline(always)]
 pub(crate) fn join(read: &[u64; 4], parts: u32, bits: u32) -> u128
     requires parts { parts ≤ 4 }
     requires bits { (0 < bits) × (bits * parts ≤ 128) }
@@ -78,6 +80,7 @@ pub(crate) fn join(read: &[u64; 4], parts: u32, bits: u32) -> u128
 }
 
 /// Swaps 1 into the lock, and answers what it found.
+#[inline(always)]
 pub(crate) fn take_as<J: Asking>(
     arena: &Arena,
     seat: &mut Seat<(), View>,
@@ -98,6 +101,7 @@ pub(crate) fn take_as<J: Asking>(
 }
 
 /// Loads a part under the lock.
+#[inline(always)]
 pub(crate) fn held_as<J: Asking>(
     arena: &Arena,
     seat: &mut Seat<(), View>,
@@ -121,6 +125,7 @@ pub(crate) fn held_as<J: Asking>(
 }
 
 /// Stores a part.
+#[inline(always)]
 pub(crate) fn put_as<J: Asking>(
     arena: &Arena,
     seat: &mut Seat<(), View>,
@@ -143,6 +148,7 @@ pub(crate) fn put_as<J: Asking>(
 }
 
 /// Stores the stamp, which ends the call.
+#[inline(always)]
 pub(crate) fn release_as<J: Asking>(
     arena: &Arena,
     seat: &mut Seat<(), View>,
@@ -170,6 +176,7 @@ pub(crate) fn release_as<J: Asking>(
 }
 
 /// Loads the lock's stamp, to begin a glance.
+#[inline(always)]
 pub(crate) fn stamp_as<J: Asking>(
     arena: &Arena,
     seat: &mut Seat<(), View>,
@@ -189,6 +196,7 @@ pub(crate) fn stamp_as<J: Asking>(
 }
 
 /// Loads a part in a glance.
+#[inline(always)]
 pub(crate) fn part_as<J: Asking>(
     arena: &Arena,
     seat: &mut Seat<(), View>,
@@ -211,6 +219,7 @@ pub(crate) fn part_as<J: Asking>(
 }
 
 /// Loads the lock's stamp again, which ends the glance.
+#[inline(always)]
 pub(crate) fn match_as<J: Asking>(
     arena: &Arena,
     seat: &mut Seat<(), View>,

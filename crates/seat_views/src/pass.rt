@@ -213,6 +213,7 @@ impl Pass {
     /// Swaps 1 into the lock of an object that has parts. True where it found another number: the pass then holds the
     /// lock, and else nothing is in flight. From the stamp found it can be told how many calls on the lock's objects
     /// were made at least.
+    #[inline(always)]
     pub fn step_take(&mut self, arena: &Arena, object: u32) -> bool
         requires arena { IsOf arena.now self.old }
         requires object { HasParts arena.now.shape object }
@@ -221,11 +222,12 @@ impl Pass {
     {
         let cell = parts_cell(arena, object);
         let found = take_as::<Brand>(arena, &mut self.seat, object, cell);
-        self.hand = hand_at(found);
+        self.hand.begin(found);
         found != 1
     }
 
     /// Loads a part, counted from 0, of the object whose lock the pass holds. Nothing was written yet.
+    #[inline(always)]
     pub fn step_held(&mut self, arena: &Arena, object: u32, part: u32) -> u64
         requires arena { IsOf arena.now self.old }
         requires part { part < parts_of arena.now.shape object }
@@ -239,6 +241,7 @@ impl Pass {
     }
 
     /// Stores a part of the object whose lock the pass holds. Every part was read before.
+    #[inline(always)]
     pub fn step_put(&mut self, arena: &Arena, object: u32, part: u32, number: u64)
         requires arena { IsOf arena.now self.old }
         requires part { part < parts_of arena.now.shape object }
@@ -254,6 +257,7 @@ impl Pass {
     /// Gives the lock up, which makes the call: the parts now hold what it leaves of the value that was read. That is
     /// the object's value in the history where the call's entry comes. The lock gets its old stamp where nothing was
     /// written, and else two more, or the last stamp again. A weak exchange is made as a strong one.
+    #[inline(always)]
     pub fn step_release(&mut self, arena: &Arena, object: u32, call: &Call) -> Reply
         requires arena { IsOf arena.now self.old }
         requires object { HasParts arena.now.shape object }
@@ -270,6 +274,7 @@ impl Pass {
 
     /// Loads the lock of an object that has parts. Where it is neither held, which is 1, nor at its last stamp, a glance
     /// at the object begins.
+    #[inline(always)]
     pub fn step_stamp(&mut self, arena: &Arena, object: u32) -> u64
         requires arena { IsOf arena.now self.old }
         requires object { HasParts arena.now.shape object }
@@ -278,11 +283,12 @@ impl Pass {
     {
         let cell = parts_cell(arena, object);
         let found = stamp_as::<Brand>(arena, &mut self.seat, object, cell);
-        self.hand = hand_at(found);
+        self.hand.begin(found);
         found
     }
 
     /// Loads a part, counted from 0, of the object that the pass glances at.
+    #[inline(always)]
     pub fn step_part(&mut self, arena: &Arena, object: u32, part: u32) -> u64
         requires arena { IsOf arena.now self.old }
         requires part { part < parts_of arena.now.shape object }
@@ -296,6 +302,7 @@ impl Pass {
     }
 
     /// The stamp at which the glance began.
+    #[inline(always)]
     pub fn glance_stamp(&self) -> u64
         requires glance { IsGlance self.now.flight }
         ensures value { result ≡ stamp_in self.now.flight }
@@ -305,6 +312,7 @@ impl Pass {
 
     /// Loads the lock again, which ends the glance. Ok with the value where the stamp stands: that makes a load. Else
     /// the other number, and no entry was made.
+    #[inline(always)]
     pub fn step_match(&mut self, arena: &Arena, object: u32) -> Result<u128, u64>
         requires arena { IsOf arena.now self.old }
         requires object { HasParts arena.now.shape object }

@@ -89,9 +89,9 @@ module _ (S : Shape) (o : ℕ) (call : Call) (p : PassState) (v : ℕ) (q : Pass
     subst (AreParts S.word_bits (parts_of S o) (got a.read)) (sym a.value_is ∙ (sym (unwritten_keeps_value (kind_of S o) call v quiet) ∙ ap (after_of (kind_of S o) call) a.value_is)) (joined_has_its_parts S.word_bits (parts_of S o) (got a.read) a.small),
   )
 
-  pub left_made : (r : Reply) (z : PassState) → does_write call (answer_of (kind_of S o) call v) ≡ false → Releases S o call q r z → MakesHeld S o call p r z
+  left_replied : (r : Reply) (z : PassState) → does_write call (answer_of (kind_of S o) call v) ≡ false → Releases S o call q r z → MakesHeld S o call p r z
   unfolding entry_made
-  left_made r z quiet h =
+  left_replied r z quiet h =
       let i : Item = item (word_of_lock S o) step.Release (stored_by q.flight) in
       let read : value_read S o q.flight ≡ v = ap (value_read S o) held_flight ∙ sym a.value_is in
       let replied : r ≡ answer_of (kind_of S o) call v = h.reply ∙ ap (answer_of (kind_of S o) call) read in record {
@@ -105,6 +105,13 @@ module _ (S : Shape) (o : ℕ) (call : Call) (p : PassState) (v : ℕ) (q : Pass
         fits = a.fits;
         reply = replied;
       }
+
+  -- the same at the reply to the value that was read
+  pub left_made : (r : Reply) (z : PassState) → does_write call (answer_of (kind_of S o) call v) ≡ false → Releases S o call q r z → MakesHeld S o call p (answer_of (kind_of S o) call v) z
+  left_made r z quiet h =
+      let read : value_read S o q.flight ≡ v = ap (value_read S o) held_flight ∙ sym a.value_is in
+      let replied : r ≡ answer_of (kind_of S o) call v = h.reply ∙ ap (answer_of (kind_of S o) call) read in
+      subst (λ (x : Reply). MakesHeld S o call p x z) replied (left_replied r z quiet h)
 
   module _ (new : ℕ) (y : PassState) (b : PutsAll S o q new y) where
     put_flight : y.flight ≡ Hold o (stamp_in p.flight) a.read true b.now
@@ -123,9 +130,9 @@ module _ (S : Shape) (o : ℕ) (call : Call) (p : PassState) (v : ℕ) (q : Pass
       subst (AreParts S.word_bits (parts_of S o) (got b.now)) (is ∙ ap (after_of (kind_of S o) call) a.value_is) b.are,
     )
 
-    pub put_made : (r : Reply) (z : PassState) → does_write call (answer_of (kind_of S o) call v) ≡ true → Releases S o call y r z → MakesHeld S o call p r z
+    put_replied : (r : Reply) (z : PassState) → does_write call (answer_of (kind_of S o) call v) ≡ true → Releases S o call y r z → MakesHeld S o call p r z
     unfolding entry_made
-    put_made r z writes h =
+    put_replied r z writes h =
         let i : Item = item (word_of_lock S o) step.Release (stored_by y.flight) in
         let read : value_read S o y.flight ≡ v = ap (value_read S o) put_flight ∙ sym a.value_is in
         let replied : r ≡ answer_of (kind_of S o) call v = h.reply ∙ ap (answer_of (kind_of S o) call) read in record {
@@ -139,6 +146,12 @@ module _ (S : Shape) (o : ℕ) (call : Call) (p : PassState) (v : ℕ) (q : Pass
           fits = a.fits;
           reply = replied;
         }
+
+    pub put_made : (r : Reply) (z : PassState) → does_write call (answer_of (kind_of S o) call v) ≡ true → Releases S o call y r z → MakesHeld S o call p (answer_of (kind_of S o) call v) z
+    put_made r z writes h =
+        let read : value_read S o y.flight ≡ v = ap (value_read S o) put_flight ∙ sym a.value_is in
+        let replied : r ≡ answer_of (kind_of S o) call v = h.reply ∙ ap (answer_of (kind_of S o) call) read in
+        subst (λ (x : Reply). MakesHeld S o call p x z) replied (put_replied r z writes h)
 
 -- ---- the takes, and what follows them
 

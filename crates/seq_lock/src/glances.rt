@@ -27,6 +27,7 @@ pub enum Missed {
 
 /// Begins a glance at an object that has parts, and answers the lock's stamp. Held where the lock is held, and Last
 /// where it has its last stamp: then no glance is in flight.
+#[inline(always)]
 pub fn glance_begin(arena: &Arena, pass: &mut Pass, object: u32) -> Result<u64, Missed>
     requires arena { IsOf arena.now pass.old }
     requires object { HasParts arena.now.shape object }
@@ -45,6 +46,7 @@ pub fn glance_begin(arena: &Arena, pass: &mut Pass, object: u32) -> Result<u64, 
 }
 
 /// Reads a part, counted from 0, of the object that is glanced at.
+#[inline(always)]
 pub fn glance_part(arena: &Arena, pass: &mut Pass, object: u32, part: u32) -> u64
     requires arena { IsOf arena.now pass.old }
     requires part { part < parts_of arena.now.shape object }
@@ -56,6 +58,7 @@ pub fn glance_part(arena: &Arena, pass: &mut Pass, object: u32, part: u32) -> u6
 
 /// Ends a glance that has read every part. Ok with the value where the lock has the glance's stamp, which makes a load.
 /// Else Moved with the glance's stamp and the number found, and no entry was made.
+#[inline(always)]
 pub fn glance_end(arena: &Arena, pass: &mut Pass, object: u32) -> Result<u128, Missed>
     requires arena { IsOf arena.now pass.old }
     requires object { HasParts arena.now.shape object }

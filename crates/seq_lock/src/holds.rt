@@ -21,6 +21,7 @@ use std::sync::Wait;
 
 /// Takes the lock of an object that has parts, as often as it finds it held. Nothing is in flight before, and after it
 /// the lock is held.
+#[inline]
 pub fn take<R: Wait>(rt: &R, arena: &Arena, pass: &mut Pass, object: u32)
     requires arena { IsOf arena.now pass.old }
     requires object { HasParts arena.now.shape object }
@@ -52,6 +53,7 @@ pub fn try_take(arena: &Arena, pass: &mut Pass, object: u32) -> bool
 
 /// Reads every part of the object whose lock is held, from part 0 up, and answers the value. Nothing was written yet.
 /// The value is the object's in the history where the entry of the release comes.
+#[inline]
 pub fn held_value(arena: &Arena, pass: &mut Pass, object: u32) -> u128
     requires arena { IsOf arena.now pass.old }
     requires object { HasParts arena.now.shape object }
@@ -69,6 +71,7 @@ pub fn held_value(arena: &Arena, pass: &mut Pass, object: u32) -> u128
 
 /// Stores every part of a value into the object whose lock is held, from part 0 up. Every part was read before, and the
 /// value is one of the object's kind.
+#[inline]
 pub fn put_value(arena: &Arena, pass: &mut Pass, object: u32, new: u128)
     requires arena { IsOf arena.now pass.old }
     requires object { HasParts arena.now.shape object }
@@ -84,6 +87,7 @@ pub fn put_value(arena: &Arena, pass: &mut Pass, object: u32, new: u128)
 
 /// Gives up a lock after its parts were written, which makes the call: they are what it leaves of the value that was
 /// read. The lock gets its stamp and two more, or its last stamp again.
+#[inline(always)]
 pub fn release(arena: &Arena, pass: &mut Pass, object: u32, call: &Call) -> Reply
     requires arena { IsOf arena.now pass.old }
     requires object { HasParts arena.now.shape object }
@@ -97,6 +101,7 @@ pub fn release(arena: &Arena, pass: &mut Pass, object: u32, call: &Call) -> Repl
 
 /// Gives up a lock under which nothing was written, which makes the call: it leaves the value that was read. The lock
 /// gets its stamp back.
+#[inline(always)]
 pub fn release_same(arena: &Arena, pass: &mut Pass, object: u32, call: &Call) -> Reply
     requires arena { IsOf arena.now pass.old }
     requires object { HasParts arena.now.shape object }

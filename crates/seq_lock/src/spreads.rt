@@ -16,6 +16,7 @@ pub struct Spread {
 
 /// How an object's value is spread.
 #[tactic(auto, using(crate::proofs::Counts::spread_count))]
+#[inline(always)]
 pub fn spread_of(arena: &Arena, object: u32) -> Spread
     requires object { HasParts arena.now.shape object }
     ensures parts { (result.parts ≡ parts_of arena.now.shape object) × (1 ≤ result.parts) }

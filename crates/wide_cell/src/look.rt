@@ -12,6 +12,7 @@ use seq_lock::{Missed, glance_begin, glance_end, glance_part, spread_of};
 /// Reads the stamp of the lock, each part once from part 0 up, and the stamp again. Ok with the value where the stamp
 /// stands, which makes a load. Held or Last where the first stamp is no stamp to glance at, and then nothing else was
 /// read; Moved, with both numbers, where the second differs. After a miss nothing is in flight, and no entry was made.
+#[inline(always)]
 pub fn glance(arena: &Arena, pass: &mut Pass, object: u32) -> Result<u128, Missed>
     requires arena { IsOf arena.now pass.old }
     requires object { HasParts arena.now.shape object }
