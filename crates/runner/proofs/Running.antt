@@ -1,5 +1,5 @@
 -- Scripts: line after line.
-use Rattle.std.proofs.Common.{◌≡◌, ℕ, zero, suc, ◌+◌, ◌<◌, ◌≤◌, List, [], ◌∷◌, ◌++◌, length, refl, ap, sym, ◌∙◌, subst, arith, append_assoc, length-append}
+use Rattle.std.proofs.Common.{◌≡◌, ℕ, zero, suc, ◌+◌, ◌-◌, ◌<◌, ◌≤◌, List, [], ◌∷◌, ◌++◌, length, refl, ap, sym, ◌∙◌, subst, arith, append_assoc, length-append}
 use Rattle.std.specs.Prelude.{map, slice_get, IsSomeAnd}
 use Rattle.std.proofs.lemmas.List.{append-nil, map-append, length-map}
 use Rattle.op_table.specs.declared.call.Call.{Call}
@@ -17,7 +17,7 @@ use Rattle.seat_views.specs.declared.view.Flight.TheVariants.{Idle}
 use Rattle.seat_views.specs.States.{ArenaState, PassState, IsOf, IsKept}
 use Rattle.seat_views.specs.Makes.{MakesCall, MakesCalls}
 use Rattle.seat_views.proofs.Making.{nothing_makes_none, call_is_made, calls_join}
-use Rattle.runner.specs.Scripts.{RunsLines}
+use Rattle.runner.specs.Scripts.{RunsLines, RunsUnkept}
 
 -- the first `made` of all lines were run, and these are left
 pub record RanSoFar (S : Shape) (all left : List Line) (made : ℕ) (p : PassState) (old new : RepliesState) (q : PassState) : Type 0 where
@@ -109,3 +109,31 @@ still_of a S all left i p old new q h of = let rest = h.ran.made.made.rest in (a
 
 pub still_idle : (S : Shape) (all left : List Line) (i : ℕ) (p : PassState) (old new : RepliesState) (q : PassState) → RanSoFar S all left i p old new q → q.flight ≡ Idle
 still_idle S all left i p old new q h = ap (λ (s : PassState). s.flight) h.ran.made.made.rest
+
+-- ---- a whole script whose replies are kept by nobody
+
+-- the same as where they are kept, in room for all of them
+pub record RanUnkept (S : Shape) (all left : List Line) (made : ℕ) (p q : PassState) : Type 0 where
+  pub kept : RepliesState
+  pub ran : RanSoFar S all left made p (record { items = []; spare = length all }) kept q
+
+pub unkept_starts : (S : Shape) (all lines : List Line) (p : PassState) → lines ≡ all → p.flight ≡ Idle → IsKept p → RanUnkept S all lines 0 p p
+unkept_starts S all lines p whole rest kept = record {
+  kept = record { items = []; spare = length all };
+  ran = script_starts S all lines p (record { items = []; spare = length all }) whole rest kept;
+}
+
+pub unkept_more : (S : Shape) (all lines left : List Line) (line : Line) (i : ℕ) (p q : PassState) (r : Reply) (z : PassState)
+    → RanUnkept S all lines i p q → lines ≡ line ∷ left → MakesCall S line.object line.call q r z → RanUnkept S all left (i + 1) p z
+unkept_more S all lines left line i p q r z h next m =
+    let below : i < length all = omega (arith, lengths S all lines i p (record { items = []; spare = length all }) h.kept q h.ran, ap length next) in
+    let free : 0 < h.kept.spare = room_left S all lines i p (record { items = []; spare = length all }) h.kept q h.ran below (omega arith) in
+    record {
+      kept = record { items = h.kept.items ++ r ∷ []; spare = h.kept.spare - 1 };
+      ran = script_more S all lines left line i p (record { items = []; spare = length all }) h.kept (record { items = h.kept.items ++ r ∷ []; spare = h.kept.spare - 1 }) q r z h.ran next m refl (omega arith);
+    }
+
+pub unkept_ends : (S : Shape) (all left : List Line) (i : ℕ) (p q : PassState) → RanUnkept S all left i p q → i ≡ length all → RunsUnkept S all p q
+unkept_ends S all left i p q h e =
+    let whole = script_ends S all left i p (record { items = []; spare = length all }) h.kept q h.ran e in
+    record { replies = whole.replies; made = whole.made }

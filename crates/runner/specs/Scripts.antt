@@ -12,6 +12,8 @@ use Rattle.seat_views.specs.declared.view.Flight.TheVariants.{Idle}
 use Rattle.seat_views.specs.States.{ArenaState, PassState, IsOf}
 use Rattle.seat_views.specs.Makes.{MakesCalls}
 use Rattle.runner.specs.declared.worker.Worker.{Worker}
+use Rattle.runner.specs.declared.worker.Keep.{Keep}
+use Rattle.runner.specs.declared.worker.Keep.TheVariants.{Replies, Nothing}
 
 -- the pass made the calls of these lines, in order, by their paths, and the replies that were gained are those to them
 pub record RunsLines (S : Shape) (lines : List Line) (p : PassState) (old new : RepliesState) (q : PassState) : Type 0 where
@@ -20,12 +22,20 @@ pub record RunsLines (S : Shape) (lines : List Line) (p : PassState) (old new : 
   pub spare : new.spare + length replies ≡ old.spare
   pub made : MakesCalls S (asked_by lines) p replies q
 
--- the worker can run its script: its pass is of the arena and has nothing in flight, each line fits, and there is room for
--- the replies
-pub record IsReady (a : ArenaState) (w : Worker) : Type 0 where
+-- the same, where the replies are kept by nobody
+pub record RunsUnkept (S : Shape) (lines : List Line) (p q : PassState) : Type 0 where
+  pub replies : List Reply
+  pub made : MakesCalls S (asked_by lines) p replies q
+
+-- the worker can run its script: its pass is of the arena and has nothing in flight, and each line fits
+pub record IsSet (a : ArenaState) (w : Worker) : Type 0 where
   pub arena : IsOf a w.pass
   pub rest : w.pass.flight ≡ Idle
   pub fits : ScriptFits (cells_of_shape a.shape) (script_lines w.script)
+
+-- and there is room for the replies
+pub record IsReady (a : ArenaState) (w : Worker) : Type 0 where
+  pub set : IsSet a w
   pub room : length (script_lines w.script) ≤ w.replies.spare
 
 -- the worker ran its script, which stays
@@ -33,12 +43,37 @@ pub record HasRun (S : Shape) (v w : Worker) : Type 0 where
   pub script : w.script ≡ v.script
   pub ran : RunsLines S (script_lines v.script) v.pass v.replies w.replies w.pass
 
-abbrev pub AreReady : ArenaState → List Worker → Type 0
-AreReady a workers = AllByRecursion (IsReady a) workers
+-- the same, and its replies stay too
+pub record HasRunUnkept (S : Shape) (v w : Worker) : Type 0 where
+  pub script : w.script ≡ v.script
+  pub replies : w.replies ≡ v.replies
+  pub ran : RunsUnkept S (script_lines v.script) v.pass w.pass
 
--- of each worker in order
+-- what a worker needs, by what is kept
+abbrev pub IsReadyTo : Keep → ArenaState → Worker → Type 0
+IsReadyTo Replies a w = IsReady a w
+IsReadyTo Nothing a w = IsSet a w
+
+-- what it comes to
+abbrev pub HasRunTo : Keep → Shape → Worker → Worker → Type 0
+HasRunTo Replies S v w = HasRun S v w
+HasRunTo Nothing S v w = HasRunUnkept S v w
+
+-- each worker has what it needs
+abbrev pub AreReadyTo : Keep → ArenaState → List Worker → Type 0
+AreReadyTo keep a workers = AllByRecursion (λ w. IsReadyTo keep a w) workers
+
+-- where every reply is kept
+abbrev pub AreReady : ArenaState → List Worker → Type 0
+AreReady a workers = AreReadyTo Replies a workers
+
+-- each worker has run its script, in order
+abbrev pub HaveRunTo : Keep → Shape → List Worker → List Worker → Type 0
+HaveRunTo keep S [] [] = Unit {0}
+HaveRunTo keep S [] (w ∷ ws) = ⊥
+HaveRunTo keep S (v ∷ vs) [] = ⊥
+HaveRunTo keep S (v ∷ vs) (w ∷ ws) = HasRunTo keep S v w × HaveRunTo keep S vs ws
+
+-- where every reply is kept
 abbrev pub HaveRun : Shape → List Worker → List Worker → Type 0
-HaveRun S [] [] = Unit {0}
-HaveRun S [] (w ∷ ws) = ⊥
-HaveRun S (v ∷ vs) [] = ⊥
-HaveRun S (v ∷ vs) (w ∷ ws) = HasRun S v w × HaveRun S vs ws
+HaveRun S vs ws = HaveRunTo Replies S vs ws

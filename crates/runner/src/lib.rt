@@ -9,6 +9,6 @@ mod tests;
 mod trials;
 mod worker;
 
-pub use crew::run_all;
+pub use crew::{run_all, run_each};
 pub use scripts::run_script;
-pub use worker::Worker;
+pub use worker::{Keep, Worker};

@@ -1,7 +1,7 @@
 //! Scripts at once: the replies of calls that meet no other thread's, and the order that a gate forces.
 
 use crate::trials::{Held, object, open, worker};
-use crate::{Worker, run_all};
+use crate::{Keep, Worker, run_all, run_each};
 use op_table::{Call, Reply, Width};
 use place_core::{Declared, OpenGate};
 use std::alloc::Global;
@@ -71,6 +71,24 @@ fn each_script_has_its_replies(rt: HostRuntime) -> Result<(), Fail> {
     apart(&rt, rt.alloc(), b"full64")?;
     apart(&rt, rt.alloc(), b"word32")?;
     apart(&rt, rt.alloc(), b"section32")
+}
+
+#[test]
+fn nothing_is_kept_where_nothing_is_asked_for(rt: HostRuntime) -> Result<(), Fail> {
+    let n = object(Width::W64, 5).ok_or("an object")?;
+    let (arena, mut root) = open(rt.alloc(), b"full64", &[n]).ok_or("it opens")?;
+    let adds = [(0, Call::Add(10, false)), (0, Call::Add(1, false))];
+    let first = worker(rt.alloc(), &arena, &mut root, &adds).ok_or("a worker")?;
+    let second = worker(rt.alloc(), &arena, &mut root, &adds).ok_or("a worker")?;
+    let mut workers = [first, second];
+    run_each(&rt, &arena, &mut workers, 1, Keep::Nothing, &OpenGate);
+    replied(&rt, &workers[0], &[]);
+    replied(&rt, &workers[1], &[]);
+    let last = worker(rt.alloc(), &arena, &mut root, &[(0, Call::Load)]).ok_or("a worker")?;
+    let mut loads = [last];
+    run_all(&rt, &arena, &mut loads, 3, &OpenGate);
+    replied(&rt, &loads[0], &[Reply::Value(27)]);
+    Ok(())
 }
 
 /// What thread 1 loads where thread 2 stores 1, and one of the two is held until the other was answered.

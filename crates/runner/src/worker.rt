@@ -11,3 +11,12 @@ pub struct Worker {
     /// One reply a line, in the script's order, after those that were there before.
     pub replies: Replies,
 }
+
+/// What is kept of the calls of scripts.
+#[derive(Clone, Copy, Debug, PartialEq, Eq)]
+pub enum Keep {
+    /// Every reply.
+    Replies,
+    /// Nothing, where the objects' last values are all that is asked for. No room for replies is taken then.
+    Nothing,
+}

@@ -8,6 +8,7 @@ ghost use Rattle.work_lang.specs.Streams.{Writes};
 ghost use Rattle.work_lang.specs.Workload.{threads_of};
 ghost use Rattle.work_lang.specs.Generated.{many_fits, many_of};
 ghost use Rattle.report_text.specs.Report.{report_lines, fixed_of, items_of};
+ghost use Rattle.runner.specs.declared.worker.Keep.TheVariants as keeps;
 ghost use Rattle.top_call.specs.declared.run_text.RunText.TheVariants as texts;
 ghost use Rattle.top_call.specs.Running.{IsRunOf, RunsWork, run_lines};
 
@@ -19,13 +20,15 @@ use ledger_sums::{Fixed, fixed_values};
 use op_table::NoMemory;
 use place_core::{Gate, Replies, Shape};
 use report_text::{many_text, report};
+use runner::Keep;
 use std::alloc::Global;
 use std::sync::Wait;
 use std::thread::Threads;
 use whole_run::run_whole;
 use work_lang::{Sink, Work, WriteEnd, make_many};
 
-/// A run that ended, the fixed values where its text tells them, the replies of each thread, and those of the last loads.
+/// A run that ended, the fixed values and the replies of each thread where its text tells them, and the replies of the
+/// last loads.
 #[derive(Drop)]
 struct Ran {
     ended: Ended,
@@ -63,6 +66,16 @@ fn fixed_for(
     }
 }
 
+/// What is kept of the calls, which only a report tells.
+fn kept_for(text: RunText) -> Keep
+    ensures { text ≡ texts.Report → result ≡ keeps.Replies }
+{
+    match text {
+        RunText::Report => Keep::Replies,
+        RunText::Many { .. } => Keep::Nothing,
+    }
+}
+
 /// Lays the objects of a workload, tells their fixed values where its text has them, and runs its scripts on an arena of
 /// that shape. The scripts are not copied: the run takes them, and the workload gets them back.
 fn run_scripts<R: Threads + Wait + Sync, G: Gate>(
@@ -74,13 +87,13 @@ fn run_scripts<R: Threads + Wait + Sync, G: Gate>(
 ) -> Result<Ran, NoMemory>
     ensures run { IfOk result (λ r. IsRunOf work r.ended) }
     ensures fixed { IfOk result (λ r. text ≡ texts.Report → r.fixed ≡ Some (fixed_of work)) }
-    ensures replies { IfOk result (λ r. map items_of r.replies.items ≡ replies_from r.ended.root.seen 1 (threads_of work)) }
+    ensures replies { IfOk result (λ r. text ≡ texts.Report → map items_of r.replies.items ≡ replies_from r.ended.root.seen 1 (threads_of work)) }
     ensures last { IfOk result (λ r. r.last.items ≡ replies_by r.ended.root.seen 0) }
 {
     let shape = lay(alloc, work.target(), work.objects())?;
     let fixed = fixed_for(alloc, text, &shape, &work)?;
     let (version, target, objects, scripts) = work.into_parts();
-    let ran = run_whole(rt, alloc, shape, scripts, gate)?;
+    let ran = run_whole(rt, alloc, shape, scripts, kept_for(text), gate)?;
     Ok(Ran {
         ended: Ended {
             arena: ran.arena,
@@ -129,7 +142,7 @@ fn write_many<K: Sink>(
 fn write_run<K: Sink>(text: RunText, ran: &Ran, sink: &mut K) -> Result<(), WriteEnd>
     requires run { IsRunOf ran.now.ended.work ran.now.ended }
     requires fixed { text ≡ texts.Report → ran.now.fixed ≡ Some (fixed_of ran.now.ended.work) }
-    requires replies { map items_of ran.now.replies.items ≡ replies_from ran.now.ended.root.seen 1 (threads_of ran.now.ended.work) }
+    requires replies { text ≡ texts.Report → map items_of ran.now.replies.items ≡ replies_from ran.now.ended.root.seen 1 (threads_of ran.now.ended.work) }
     requires last { ran.now.last.items ≡ replies_by ran.now.ended.root.seen 0 }
     ensures { Writes K.taken K.faults K.whole sink.old sink.new result (run_lines text ran.now.ended.work ran.now.ended.root.seen) }
 {

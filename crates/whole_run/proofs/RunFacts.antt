@@ -11,7 +11,6 @@ use Rattle.place_core.specs.Histories.{Each, CallersWithin}
 use Rattle.place_core.specs.Cells.{entries_by}
 use Rattle.place_core.specs.Earned.{IsEarned, IsSpuriousEntry, AllEarned}
 use Rattle.place_core.specs.Passes.{IsEnded}
-use Rattle.place_core.specs.RepliesState.{RepliesState}
 use Rattle.place_core.specs.Runs.{made_of, asked_by, replies_by, replies_from, FollowScripts, loads_from, EndsWithLoads}
 use Rattle.place_core.specs.Shapes.{cells_of_shape}
 use Rattle.place_core.specs.ShapeRuns.{IsRun}
@@ -33,33 +32,33 @@ use Rattle.whole_run.proofs.Threads.{made_with, replies_with, only_zero, stands_
 
 module _ (S : Shape) (H : List Entry) (given : ℕ) where
   -- its entries in the history
-  entries_are : (i : ℕ) (script : List Line) (r : RepliesState) (d : Ended) → IsEnded caller_of number_of_ended entries_of_ended H given d → IsBack S H i script r d → entries_by H i ≡ entries_with i (asked_by script) r.items
+  entries_are : (i : ℕ) (script : List Line) (r : List Reply) (d : Ended) → IsEnded caller_of number_of_ended entries_of_ended H given d → IsBack S H i script r d → entries_by H i ≡ entries_with i (asked_by script) r
   entries_are i script r d known b = ap (entries_by H) (sym b.number) ∙ (known.own ∙ b.entries)
 
-  replies_are : (i : ℕ) (script : List Line) (r : RepliesState) (d : Ended) → IsEnded caller_of number_of_ended entries_of_ended H given d → IsBack S H i script r d → replies_by H i ≡ r.items
-  replies_are i script r d known b = ap (map (λ (x : Entry). x.reply)) (entries_are i script r d known b) ∙ replies_with i (asked_by script) r.items b.count
+  replies_are : (i : ℕ) (script : List Line) (r : List Reply) (d : Ended) → IsEnded caller_of number_of_ended entries_of_ended H given d → IsBack S H i script r d → replies_by H i ≡ r
+  replies_are i script r d known b = ap (map (λ (x : Entry). x.reply)) (entries_are i script r d known b) ∙ replies_with i (asked_by script) r b.count
 
-  pub follow : (i : ℕ) (scripts : List (List Line)) (rs : List RepliesState) (ds : List Ended) → AllByRecursion (IsEnded caller_of number_of_ended entries_of_ended H given) ds → AreBack S H i scripts rs ds → FollowScripts H i scripts
+  pub follow : (i : ℕ) (scripts : List (List Line)) (rs : List (List Reply)) (ds : List Ended) → AllByRecursion (IsEnded caller_of number_of_ended entries_of_ended H given) ds → AreBack S H i scripts rs ds → FollowScripts H i scripts
   follow i [] rs ds known all = tt
   follow i (script ∷ scripts) [] ds known all = absurd all
   follow i (script ∷ scripts) (r ∷ rs) [] known all = absurd all
   follow i (script ∷ scripts) (r ∷ rs) (d ∷ ds) known all = (
-    ap (map made_of) (entries_are i script r d known.0 all.0) ∙ made_with i (asked_by script) r.items all.0.count,
+    ap (map made_of) (entries_are i script r d known.0 all.0) ∙ made_with i (asked_by script) r all.0.count,
     follow (i + 1) scripts rs ds known.1 all.1,
   )
 
-  pub replies : (i : ℕ) (scripts : List (List Line)) (rs : List RepliesState) (ds : List Ended) → AllByRecursion (IsEnded caller_of number_of_ended entries_of_ended H given) ds → AreBack S H i scripts rs ds
-      → map (λ (k : RepliesState). k.items) rs ≡ replies_from H i scripts
+  pub replies : (i : ℕ) (scripts : List (List Line)) (rs : List (List Reply)) (ds : List Ended) → AllByRecursion (IsEnded caller_of number_of_ended entries_of_ended H given) ds → AreBack S H i scripts rs ds
+      → rs ≡ replies_from H i scripts
   replies i [] [] ds known all = refl
   replies i [] (r ∷ rs) ds known all = absurd all
   replies i (script ∷ scripts) [] ds known all = absurd all
   replies i (script ∷ scripts) (r ∷ rs) [] known all = absurd all
   replies i (script ∷ scripts) (r ∷ rs) (d ∷ ds) known all =
-      let head : replies_by H i ≡ r.items = replies_are i script r d known.0 all.0 in
-      let rest : map (λ (k : RepliesState). k.items) rs ≡ replies_from H (i + 1) scripts = replies (i + 1) scripts rs ds known.1 all.1 in
+      let head : replies_by H i ≡ r = replies_are i script r d known.0 all.0 in
+      let rest : rs ≡ replies_from H (i + 1) scripts = replies (i + 1) scripts rs ds known.1 all.1 in
       cc (head, rest)
 
-  pub ended_as : (i : ℕ) (scripts : List (List Line)) (rs : List RepliesState) (ds : List Ended) → AllByRecursion (IsEnded caller_of number_of_ended entries_of_ended H given) ds → AreBack S H i scripts rs ds → EndedAs S H i scripts ds
+  pub ended_as : (i : ℕ) (scripts : List (List Line)) (rs : List (List Reply)) (ds : List Ended) → AllByRecursion (IsEnded caller_of number_of_ended entries_of_ended H given) ds → AreBack S H i scripts rs ds → EndedAs S H i scripts ds
   ended_as i [] [] [] known all = tt
   ended_as i [] [] (d ∷ ds) known all = absurd all
   ended_as i [] (r ∷ rs) ds known all = absurd all
@@ -76,7 +75,7 @@ module _ (S : Shape) (H : List Entry) (given : ℕ) where
   )
 
 -- a thread's entries in two histories, of each of which the root knows that they are all of its number
-same_entries : (S : Shape) (H K : List Entry) (given i c : ℕ) (scripts : List (List Line)) (rs : List RepliesState) (ds : List Ended)
+same_entries : (S : Shape) (H K : List Entry) (given i c : ℕ) (scripts : List (List Line)) (rs : List (List Reply)) (ds : List Ended)
     → AllByRecursion (IsEnded caller_of number_of_ended entries_of_ended H given) ds → AllByRecursion (IsEnded caller_of number_of_ended entries_of_ended K given) ds
     → AreBack S H i scripts rs ds → i ≤ c → c < i + length scripts → entries_by H c ≡ entries_by K c
 same_entries S H K given i c [] rs ds known too all from_i below = absurd (omega arith)
@@ -112,7 +111,7 @@ loads_earned S H more own all before x rest split spurious =
 
 -- ---- the whole run
 
-module _ (S : Shape) (a : ArenaState) (scripts : List (List Line)) (rs : List RepliesState) (p q : PassState) (loaded : List Reply)
+module _ (S : Shape) (a : ArenaState) (scripts : List (List Line)) (rs : List (List Reply)) (p q : PassState) (loaded : List Reply)
     (shape : a.shape ≡ S) (first_stamp : a.first_stamp ≡ 0) (h : HasBack a (length scripts) scripts rs p) (m : MakesCalls S (loads_from 0 (cells_of_shape S)) p loaded q) where
   -- what was taken back
   back_p : AreBack S p.seen 1 scripts rs p.ended
@@ -213,7 +212,7 @@ module _ (S : Shape) (a : ArenaState) (scripts : List (List Line)) (rs : List Re
   last_replies = sym (ap (map (λ (x : Entry). x.reply)) loads_with ∙ replies_with 0 (loads_from 0 (cells_of_shape S)) loaded m.made.count)
 
   -- the replies of each thread
-  pub thread_replies : map (λ (k : RepliesState). k.items) rs ≡ replies_from q.seen 1 scripts
+  pub thread_replies : rs ≡ replies_from q.seen 1 scripts
   thread_replies = replies S q.seen (length scripts) 1 scripts rs p.ended sound_q.back back_q
 
   pub ran_whole : RanWhole S scripts a q

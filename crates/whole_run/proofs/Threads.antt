@@ -12,7 +12,6 @@ use Rattle.place_core.specs.declared.script.Line.{Line}
 use Rattle.place_core.specs.declared.shape.Shape.{Shape}
 use Rattle.place_core.specs.Cells.{entries_by}
 use Rattle.place_core.specs.Passes.{IsEnded}
-use Rattle.place_core.specs.RepliesState.{RepliesState}
 use Rattle.place_core.specs.Runs.{made_of}
 use Rattle.place_core.proofs.EntryLists.{made_by-own_first, made_by-between}
 use Rattle.place_core.proofs.Prefixes.{prefix_trans, prefix_shorter}
@@ -64,7 +63,7 @@ stands_in F H before x rest front split same =
 
 -- ---- passes that were taken back
 
-IsBack-later : (S : Shape) (H K : List Entry) (i : ℕ) (script : List Line) (r : RepliesState) (d : Ended) → IsPrefix H K → IsBack S H i script r d → IsBack S K i script r d
+IsBack-later : (S : Shape) (H K : List Entry) (i : ℕ) (script : List Line) (r : List Reply) (d : Ended) → IsPrefix H K → IsBack S H i script r d → IsBack S K i script r d
 IsBack-later S H K i script r d longer b = record {
   number = b.number;
   count = b.count;
@@ -78,7 +77,7 @@ IsBack-later S H K i script r d longer b = record {
 }
 
 -- what was taken back stays so as the root sees more
-pub AreBack-later : (S : Shape) (H K : List Entry) (i : ℕ) (scripts : List (List Line)) (rs : List RepliesState) (ds : List Ended) → IsPrefix H K → AreBack S H i scripts rs ds → AreBack S K i scripts rs ds
+pub AreBack-later : (S : Shape) (H K : List Entry) (i : ℕ) (scripts : List (List Line)) (rs : List (List Reply)) (ds : List Ended) → IsPrefix H K → AreBack S H i scripts rs ds → AreBack S K i scripts rs ds
 AreBack-later S H K i [] [] [] longer all = tt
 AreBack-later S H K i [] [] (d ∷ ds) longer all = absurd all
 AreBack-later S H K i [] (r ∷ rs) ds longer all = absurd all
@@ -90,7 +89,7 @@ AreBack-later S H K i (script ∷ scripts) (r ∷ rs) (d ∷ ds) longer all = (
 )
 
 -- one more
-pub AreBack-more : (S : Shape) (H : List Entry) (i j : ℕ) (scripts : List (List Line)) (script : List Line) (rs : List RepliesState) (r : RepliesState) (ds : List Ended) (d : Ended)
+pub AreBack-more : (S : Shape) (H : List Entry) (i j : ℕ) (scripts : List (List Line)) (script : List Line) (rs : List (List Reply)) (r : List Reply) (ds : List Ended) (d : Ended)
     → AreBack S H i scripts rs ds → j ≡ i + length scripts → IsBack S H j script r d → AreBack S H i (scripts ++ script ∷ []) (rs ++ r ∷ []) (ds ++ d ∷ [])
 AreBack-more S H i j [] script [] r [] d all at back = let same : j ≡ i = omega arith in (subst (λ n. IsBack S H n script r d) same back, tt)
 AreBack-more S H i j [] script [] r (e ∷ ds) d all at back = absurd all
@@ -102,12 +101,12 @@ AreBack-more S H i j (first ∷ scripts) script (o ∷ rs) r (e ∷ ds) d all at
 -- the pass of a number among them
 pub record Found (S : Shape) (H : List Entry) (i : ℕ) : Type 0 where
   pub script : List Line
-  pub replies : RepliesState
+  pub replies : List Reply
   pub ended : Ended
   pub back : IsBack S H i script replies ended
   pub all : entries_by H i ≡ ended.entries
 
-pub AreBack-find : (S : Shape) (H : List Entry) (given i c : ℕ) (scripts : List (List Line)) (rs : List RepliesState) (ds : List Ended)
+pub AreBack-find : (S : Shape) (H : List Entry) (given i c : ℕ) (scripts : List (List Line)) (rs : List (List Reply)) (ds : List Ended)
     → AllByRecursion (IsEnded caller_of number_of_ended entries_of_ended H given) ds → AreBack S H i scripts rs ds → i ≤ c → c < i + length scripts → Found S H c
 AreBack-find S H given i c [] rs ds known all from_i below = absurd (omega arith)
 AreBack-find S H given i c (script ∷ scripts) [] ds known all from_i below = absurd all

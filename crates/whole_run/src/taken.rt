@@ -4,7 +4,7 @@ ghost use Rattle.std.specs.Prelude.{◌≡◌, ℕ, ◌+◌, List, [], ◌∷◌
 ghost use Rattle.seat_views.specs.States.{IsKept};
 ghost use Rattle.runner.specs.declared.worker.Worker.{Worker};
 ghost use Rattle.place_core.specs.Pieces.{script_lines};
-ghost use Rattle.whole_run.specs.Stages.{root_of, AreDone, HasBack, HasRoom};
+ghost use Rattle.whole_run.specs.Stages.{root_of, told_by, AreDone, HasBack, HasRoom};
 
 use op_table::NoMemory;
 use place_core::{Replies, Script};
@@ -65,7 +65,8 @@ pub(crate) fn take_all_back(
     requires replies { taken.replies.items ≡ [] }
     requires room { HasRoom taken (length workers.items) }
     ensures scripts { result.scripts.items ≡ map (λ (w : Worker). w.script) workers.items }
-    ensures back { HasBack arena.now (length workers.items) (map script_lines result.scripts.items) result.replies.items root.new }
+    ensures replies { result.replies.items ≡ map (λ (w : Worker). w.replies) workers.items }
+    ensures back { HasBack arena.now (length workers.items) (map script_lines result.scripts.items) (map told_by workers.items) root.new }
 {
     let mut taken = taken;
     for worker in workers {

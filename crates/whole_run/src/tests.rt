@@ -4,6 +4,7 @@ use crate::WholeRun;
 use crate::trials::{counter, run_none, run_two};
 use op_table::{Call, Reply};
 use place_core::Replies;
+use runner::Keep;
 use std::process::Abort;
 use std::test::*;
 
@@ -33,7 +34,15 @@ const ONE: Call = Call::Add(1, false);
 #[test]
 fn additions_of_two_threads_add_up(rt: HostRuntime) -> Result<(), Fail> {
     let objects = [counter(100).ok_or("an object")?];
-    let run = run_two(&rt, rt.alloc(), &objects, &[ONE, ONE], &[ONE, ONE]).ok_or("it runs")?;
+    let run = run_two(
+        &rt,
+        rt.alloc(),
+        &objects,
+        &[ONE, ONE],
+        &[ONE, ONE],
+        Keep::Replies,
+    )
+    .ok_or("it runs")?;
     ends_with(&rt, &run, &[104]);
     assert_eq!(rt; run.scripts.len(), 2);
     let [first, second] = run.replies.as_slice() else {
@@ -48,13 +57,33 @@ fn additions_of_two_threads_add_up(rt: HostRuntime) -> Result<(), Fail> {
 }
 
 #[test]
+fn last_values_are_the_same_where_no_replies_are_kept(rt: HostRuntime) -> Result<(), Fail> {
+    let objects = [counter(100).ok_or("an object")?];
+    let run = run_two(
+        &rt,
+        rt.alloc(),
+        &objects,
+        &[ONE, ONE],
+        &[ONE, ONE],
+        Keep::Nothing,
+    )
+    .ok_or("it runs")?;
+    ends_with(&rt, &run, &[104]);
+    let [first, second] = run.replies.as_slice() else {
+        return Err("two threads".into());
+    };
+    assert_eq!(rt; (first.len(), second.len()), (0, 0));
+    Ok(())
+}
+
+#[test]
 fn threads_that_do_not_meet_have_their_own_replies(rt: HostRuntime) -> Result<(), Fail> {
     let objects = [
         counter(7).ok_or("an object")?,
         counter(8).ok_or("an object")?,
     ];
     let calls = [Call::Swap(3), Call::Load];
-    let run = run_two(&rt, rt.alloc(), &objects, &calls, &[]).ok_or("it runs")?;
+    let run = run_two(&rt, rt.alloc(), &objects, &calls, &[], Keep::Replies).ok_or("it runs")?;
     ends_with(&rt, &run, &[3, 8]);
     let [first, second] = run.replies.as_slice() else {
         return Err("replies of two threads".into());
@@ -74,7 +103,7 @@ fn no_scripts_leave_the_starts(rt: HostRuntime) -> Result<(), Fail> {
 
 #[test]
 fn no_objects_have_no_last_load(rt: HostRuntime) -> Result<(), Fail> {
-    let run = run_two(&rt, rt.alloc(), &[], &[], &[]).ok_or("it runs")?;
+    let run = run_two(&rt, rt.alloc(), &[], &[], &[], Keep::Replies).ok_or("it runs")?;
     ends_with(&rt, &run, &[]);
     assert_eq!(rt; run.replies.len(), 2);
     Ok(())

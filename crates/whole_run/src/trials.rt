@@ -10,6 +10,7 @@ use crate::{WholeRun, run_whole};
 use layout_plan::{are_declared, lay};
 use op_table::{Call, Class, Kind, Order, Width, call_fits};
 use place_core::{Declared, Line, MOST_IN_SHAPE, Name, OpenGate, Script, Shape};
+use runner::Keep;
 use std::alloc::Global;
 use std::sync::Wait;
 use std::thread::Threads;
@@ -86,17 +87,18 @@ fn two_of(alloc: Global, shape: &Shape, first: &[Call], second: &[Call]) -> Opti
     Some(scripts)
 }
 
-/// What two scripts of these calls on object 0 leave.
+/// What two scripts of these calls on object 0 leave, and what is kept of them.
 pub(crate) fn run_two<R: Threads + Wait + Sync>(
     rt: &R,
     alloc: Global,
     objects: &[Declared],
     first: &[Call],
     second: &[Call],
+    keep: Keep,
 ) -> Option<WholeRun> {
     let shape = laid(alloc, objects)?;
     let scripts = two_of(alloc, &shape, first, second)?;
-    run_whole(rt, alloc, shape, scripts, &OpenGate).ok()
+    run_whole(rt, alloc, shape, scripts, keep, &OpenGate).ok()
 }
 
 /// What no scripts leave.
@@ -106,5 +108,5 @@ pub(crate) fn run_none<R: Threads + Wait + Sync>(
     objects: &[Declared],
 ) -> Option<WholeRun> {
     let shape = laid(alloc, objects)?;
-    run_whole(rt, alloc, shape, Vec::new(alloc), &OpenGate).ok()
+    run_whole(rt, alloc, shape, Vec::new(alloc), Keep::Replies, &OpenGate).ok()
 }

@@ -5,6 +5,7 @@ ghost use Rattle.place_core.specs.RepliesState.{RepliesState};
 ghost use Rattle.place_core.specs.Runs.{ScriptsFit, replies_by, replies_from};
 ghost use Rattle.place_core.specs.Shapes.{cells_of_shape, IsShape};
 ghost use Rattle.place_core.specs.Pieces.{script_lines};
+ghost use Rattle.runner.specs.declared.worker.Keep.TheVariants as keeps;
 ghost use Rattle.whole_run.specs.WholeRuns.{RanWhole};
 ghost use Rattle.seat_views.specs.Limits.{most_passes};
 
@@ -14,12 +15,14 @@ use crate::runs::run_manned;
 use crate::taken::{Taken, take_all_back};
 use op_table::NoMemory;
 use place_core::{Gate, Replies, Script, Shape};
+use runner::Keep;
 use seat_views::{Arena, Root};
 use std::alloc::Global;
 use std::sync::Wait;
 use std::thread::Threads;
 
-/// An arena after a run, its root, the scripts that were run, the replies of each thread, and those of the last loads.
+/// An arena after a run, its root, the scripts that were run, the replies of each thread where they were kept, and those of
+/// the last loads.
 #[derive(Drop)]
 pub struct WholeRun {
     pub arena: Arena,
@@ -30,12 +33,14 @@ pub struct WholeRun {
 }
 
 /// Runs the scripts on a new arena of the shape, each in a thread of its own, and then loads every object in declared
-/// order. NoMemory only comes before the first call of a script; the shape and the scripts are then dropped.
+/// order. Where replies aren't kept no room is taken for them. NoMemory only comes before the first call of a script; the
+/// shape and the scripts are then dropped.
 pub fn run_whole<R: Threads + Wait + Sync, G: Gate>(
     rt: &R,
     alloc: Global,
     shape: Shape,
     scripts: Vec<Script>,
+    keep: Keep,
     gate: &G,
 ) -> Result<WholeRun, NoMemory>
     requires shape { IsShape shape }
@@ -43,14 +48,14 @@ pub fn run_whole<R: Threads + Wait + Sync, G: Gate>(
     requires few { length scripts.items ≤ most_passes }
     ensures run { IfOk result (λ r. RanWhole shape (map script_lines scripts.items) r.arena r.root) }
     ensures scripts { IfOk result (λ r. r.scripts.items ≡ scripts.items) }
-    ensures replies { IfOk result (λ r. map (λ (k : RepliesState). k.items) r.replies.items ≡ replies_from r.root.seen 1 (map script_lines scripts.items)) }
+    ensures replies { IfOk result (λ r. keep ≡ keeps.Replies → map (λ (k : RepliesState). k.items) r.replies.items ≡ replies_from r.root.seen 1 (map script_lines scripts.items)) }
     ensures last { IfOk result (λ r. r.last.items ≡ replies_by r.root.seen 0) }
 {
     let (arena, mut root) = Arena::open(alloc, shape, 0)?;
     let taken = Taken::with_room(alloc, scripts.len())?;
     let last = Replies::with_room(alloc, arena.shape().objects.len() as u32)?;
-    let workers = man_all(alloc, &arena, &mut root, scripts)?;
-    let workers = run_manned(rt, &arena, workers, gate);
+    let workers = man_all(alloc, &arena, &mut root, scripts, keep)?;
+    let workers = run_manned(rt, &arena, workers, keep, gate);
     let Taken { scripts, replies } = take_all_back(&arena, &mut root, workers, taken);
     let last = load_all(rt, &arena, &mut root, last);
     Ok(WholeRun {

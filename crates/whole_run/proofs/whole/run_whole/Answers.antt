@@ -8,7 +8,6 @@ returns g c =
     let given = c.args.scripts.items in
     let ws = c.run_manned-workers.result.items in
     let scripts = c.take_all_back-scripts.result.scripts.items in
-    let replies = c.take_all_back-scripts.result.replies.items in
     let p = c.take_all_back-scripts.new.root in
     let q = c.load_all-last.new.root in
     let opens = c.in_ok-arena.ensures in
@@ -17,8 +16,8 @@ returns g c =
     let back = c.take_all_back-scripts.ensures.back in
     let loads = c.load_all-last.ensures in
     record {
-      run = run_of c.args.shape a c.in_ok-arena.root given ws scripts replies p q c.load_all-last.result opens named kept back loads;
-      scripts = scripts_are c.args.shape a c.in_ok-arena.root given ws scripts replies p q c.load_all-last.result opens named kept back loads;
-      replies = replies_of c.args.shape a c.in_ok-arena.root given ws scripts replies p q c.load_all-last.result opens named kept back loads;
-      last = last_of c.args.shape a c.in_ok-arena.root given ws scripts replies p q c.load_all-last.result opens named kept back loads;
+      run = run_of c.args.shape a c.in_ok-arena.root given ws scripts p q c.load_all-last.result opens named kept back loads;
+      scripts = scripts_are c.args.shape a c.in_ok-arena.root given ws scripts p q c.load_all-last.result opens named kept back loads;
+      replies = λ same. replies_of c.args.shape a c.in_ok-arena.root given ws scripts p q c.load_all-last.result opens named kept back loads c.take_all_back-scripts.result.replies.items c.take_all_back-scripts.ensures.replies (c.run_manned-workers.ensures.kept same);
+      last = last_of c.args.shape a c.in_ok-arena.root given ws scripts p q c.load_all-last.result opens named kept back loads;
     }

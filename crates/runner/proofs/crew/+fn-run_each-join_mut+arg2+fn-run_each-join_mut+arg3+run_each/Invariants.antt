@@ -1,5 +1,5 @@
 use Rattle.std.proofs.Common.{length}
-use Rattle.runner.proofs.crew.+fn-run_all-join_mut+arg2+fn-run_all-join_mut+arg3+run_all.Given as goal
+use Rattle.runner.proofs.crew.+fn-run_each-join_mut+arg2+fn-run_each-join_mut+arg3+run_each.Given as goal
 
 abbrev pub decreases-join_mut+arg2 : goal.decreases-join_mut+arg2
 decreases-join_mut+arg2 g l = length l.front.now
@@ -7,5 +7,5 @@ decreases-join_mut+arg2 g l = length l.front.now
 abbrev pub decreases-join_mut+arg3 : goal.decreases-join_mut+arg3
 decreases-join_mut+arg3 g l = length l.back.now
 
-abbrev pub decreases-run_all : goal.decreases-run_all
-decreases-run_all g l = length l.workers.now
+abbrev pub decreases-run_each : goal.decreases-run_each
+decreases-run_each g l = length l.workers.now
