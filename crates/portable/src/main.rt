@@ -4,10 +4,11 @@
 use place_core::OpenGate;
 use std::alloc::Global;
 use std::io::{ErrorKind, Read, Write};
+use std::mem::forget;
 use std::process::ExitCode;
 use std::sync::Wait;
 use std::thread::Threads;
-use top_call::{ReadSource, Status, WriteSink, portable_call};
+use top_call::{Outcome, ReadSource, Status, WriteSink, portable_call};
 
 /// The words of the command line, without the program's name. A word that isn't UTF-8 is no form's.
 fn words(rt: &HostRuntime) -> Result<Vec<String>, Status> {
@@ -40,9 +41,18 @@ fn serve<R: Threads + Wait + Sync, I: Read + Drop, O: Write + Drop>(
     let Ok(mut sink) = WriteSink::new(alloc, output) else {
         return Status::NoMemory;
     };
-    let outcome = portable_call(rt, alloc, words, &mut source, &mut sink, &OpenGate);
+    let Outcome { status, ended } = portable_call(
+        rt,
+        alloc,
+        words,
+        &mut source,
+        &mut sink,
+        &OpenGate,
+    );
+    // The process ends next, and its memory with it: nothing is to walk over a million calls to give it back first.
+    forget(ended);
     match sink.close() {
-        Ok(_) => outcome.status,
+        Ok(_) => status,
         Err(_) => Status::WriteFault,
     }
 }
