@@ -78,20 +78,25 @@ fn generated_objects(alloc: Global) -> Result<Vec<Declared>, NoMemory>
     Ok(objects)
 }
 
+/// How many bits the operand on the object of each number has, of the 61 that are drawn.
+const OPERAND_BITS: [u32; 8] = [8, 16, 32, 32, 64, 8, 16, 64];
+
 /// The call on the object of that number, whose operand is so many of these bits as the object has.
 fn call_on(number: u32, bits: u64) -> Call
+    requires number { number < 8 }
     ensures { result ≡ call_on number bits }
 {
-    let bits = u128::from(bits);
+    // From a table, so that no branch hangs on what was drawn.
+    let operand = u128::from(bits) % (1 << OPERAND_BITS[number as usize]);
     match number {
-        0 => Call::Add(bits % (1 << 8), false),
-        1 => Call::Sub(bits % (1 << 16), false),
-        2 => Call::Max(bits % (1 << 32)),
-        3 => Call::Min(bits % (1 << 32)),
-        4 => Call::Xor(bits % (1 << 64), false),
-        5 => Call::Or(bits % (1 << 8), false),
-        6 => Call::And(bits % (1 << 16), false),
-        _ => Call::Add(bits, false),
+        0 => Call::Add(operand, false),
+        1 => Call::Sub(operand, false),
+        2 => Call::Max(operand),
+        3 => Call::Min(operand),
+        4 => Call::Xor(operand, false),
+        5 => Call::Or(operand, false),
+        6 => Call::And(operand, false),
+        _ => Call::Add(operand, false),
     }
 }
 
