@@ -1,13 +1,12 @@
 -- Values of last loads as lines.
-use Rattle.std.proofs.Common.{◌≡◌, ◌∙◌, ℕ, zero, suc, ◌<◌, List, [], ◌∷◌, map, refl, sym, ap}
+use Rattle.std.proofs.Common.{◌≡◌, ◌∙◌, ℕ, zero, suc, ◌<◌, List, [], ◌∷◌, map, sym, ap}
 use Rattle.std.specs.Prelude.{Option, Some, IsSomeAnd, slice_get}
 use Rattle.op_table.specs.declared.kind.Kind.{Kind}
 use Rattle.op_table.specs.declared.call.Reply.{Reply}
 use Rattle.op_table.specs.declared.call.Reply.TheVariants as reply
 use Rattle.op_table.specs.Kind.{values_of}
 use Rattle.op_table.specs.Call.{ReplyFits}
-use Rattle.place_core.specs.declared.name.Declared.{Declared}
-use Rattle.report_text.specs.Many.{many_head, many_with, value_replied}
+use Rattle.report_text.specs.Many.{value_replied}
 
 pub value_fits : (kind : Kind) (r : Reply) → IsSomeAnd (value_replied r) (λ v. v < values_of kind) → ReplyFits kind r
 value_fits kind reply.Unit fits = absurd fits

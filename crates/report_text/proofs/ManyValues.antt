@@ -1,5 +1,5 @@
 -- The calls of a generated workload on one object are of one family, so each object has a fixed value.
-use Rattle.std.proofs.Common.{◌≡◌, ◌∙◌, Bool, cond, true, false, ℕ, zero, suc, ◌+◌, ◌*◌, ◌/◌, ◌%◌, ◌<◌, List, [], ◌∷◌, ◌++◌, map, length, refl, sym, subst, ap, ap₂, arith}
+use Rattle.std.proofs.Common.{◌≡◌, ◌∙◌, Bool, true, false, ℕ, zero, suc, ◌+◌, ◌/◌, ◌%◌, ◌<◌, List, [], ◌∷◌, map, refl, sym, subst, ap, ap₂, arith}
 use Rattle.std.specs.Prelude.{◌&&◌, ◌||◌, ◌==◌, Option, Some, None, slice_get, if◌then◌else◌}
 use Rattle.std.specs.List.{AllByRecursion}
 use mathlib.Core.Logic.{dite}
@@ -11,24 +11,22 @@ use Rattle.rand_pcg.specs.Pcg.{pcg64}
 use Rattle.op_table.specs.declared.call.Call.{Call}
 use Rattle.op_table.specs.declared.call.Reply.{Reply}
 use Rattle.op_table.specs.declared.call.Reply.TheVariants as reply
-use Rattle.op_table.specs.Kind.{values_of}
 use Rattle.place_core.specs.declared.entry.Entry.{Entry}
 use Rattle.place_core.specs.declared.script.Line.{Line}
-use Rattle.place_core.specs.declared.script.Piece.{Piece}
 use Rattle.place_core.specs.declared.script.Piece.TheVariants.{One}
 use Rattle.place_core.specs.Pieces.{script_lines}
 use Rattle.place_core.specs.Cells.{Cell, value_of}
 use Rattle.place_core.specs.DeclaredObjects.{cells_of}
-use Rattle.place_core.specs.Runs.{IsCellRun, replies_by}
+use Rattle.place_core.specs.Runs.{IsCellRun}
 use Rattle.place_core.proofs.EntryLists.{all_append}
 use Rattle.ledger_sums.specs.declared.families.Family.{Family}
 use Rattle.ledger_sums.specs.declared.families.Family.TheVariants.{Sums, Flips, Sets, Clears, Maxima, Minima}
 use Rattle.ledger_sums.specs.Families.{mix_of, suits, all_suit, are_of_one_family}
-use Rattle.ledger_sums.specs.Fixed.{calls_on, lines_of, after_calls, fixed_by, fixed_value, fixed_from, fixed_values_of}
+use Rattle.ledger_sums.specs.Fixed.{calls_on, lines_of, after_calls, fixed_by, fixed_value, fixed_from}
 use Rattle.ledger_sums.specs.Laws.{IsSoundCell}
 use Rattle.ledger_sums.proofs.LastValues.{fixed_is_last}
 use Rattle.work_lang.specs.Workload.{threads_of}
-use Rattle.work_lang.specs.Generated.{many_fits, many_of, generated_objects, generator_of, call_on, drawn_line, after_words, script_from, scripts_from}
+use Rattle.work_lang.specs.Generated.{many_of, generated_objects, generator_of, call_on, drawn_line, after_words, script_from, scripts_from}
 use Rattle.report_text.specs.Report.{fixed_of}
 use Rattle.report_text.specs.Many.{many_lines, many_with, value_reply}
 use Rattle.report_text.specs.Laws.{ManyIsFixed}

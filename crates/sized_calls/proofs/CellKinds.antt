@@ -4,7 +4,7 @@ use Rattle.std.specs.Prelude.{◌≢◌}
 use Rattle.op_table.specs.declared.kind.Width.TheVariants.{W1, W8, W16, W32, W64, W128}
 use Rattle.op_table.specs.Kind.{bytes_of, values_of, IsKind}
 use Rattle.sized_calls.specs.Sizes.{is_size}
-use Rattle.sized_calls.specs.Cells.{width_of_size, kind_of_size}
+use Rattle.sized_calls.specs.Cells.{kind_of_size}
 use Rattle.sized_calls.proofs.Sizes.{each_size}
 
 pub kind_bytes : (n : ℕ) → is_size n ≡ true → bytes_of (kind_of_size n) ≡ n

@@ -1,13 +1,9 @@
 -- Where the object of a cell lies.
-use Rattle.std.proofs.Common.{◌≡◌, ℕ, ◌/◌, ◌%◌, Bool, true, false, List, Some, Option, slice_get, sym, ◌∙◌, if◌then◌else◌}
-use Rattle.op_table.specs.Kind.{bits_of}
-use Rattle.target_desc.specs.declared.target.Target.{Target}
+use Rattle.std.proofs.Common.{◌≡◌, ℕ, Bool, true, false, Some, Option, sym, ◌∙◌, if◌then◌else◌}
 use Rattle.place_core.specs.declared.places.Place.{Place}
 use Rattle.place_core.specs.declared.places.Place.TheVariants.{Lane, Parts}
-use Rattle.place_core.specs.Shapes.{place_of}
 use Rattle.place_core.proofs.ShapeFacts.{place_of-at, kind_of-at, start_of-at}
-use Rattle.layout_plan.specs.Layout.{has_lane, place_at}
-use Rattle.sized_calls.specs.declared.cells.Cell.{Cell}
+use Rattle.layout_plan.specs.Layout.{has_lane}
 use Rattle.sized_calls.specs.Cells.{kind_of_size, cell_object, cell_shape}
 use Rattle.sized_calls.specs.Laws.{CellsAreShape, ObjectIsCell, LockIsAddress}
 use Rattle.sized_calls.proofs.CellShapes.{object_is, cells_are_shape}

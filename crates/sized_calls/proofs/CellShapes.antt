@@ -1,13 +1,12 @@
 -- The shape of cells without a fault is a valid one.
-use Rattle.std.proofs.Common.{◌≡◌, ℕ, zero, suc, ◌+◌, ◌-◌, ◌*◌, ◌%◌, ◌<◌, ◌≤◌, Bool, true, false, List, [], ◌∷◌, ◌++◌, length, take, drop, get_or, append_assoc, append-nil, map, Option, Some, None, slice_get, refl, ap, sym, ◌∙◌, subst, arith, if◌then◌else◌}
+use Rattle.std.proofs.Common.{◌≡◌, ℕ, zero, suc, ◌+◌, ◌-◌, ◌%◌, ◌<◌, ◌≤◌, Bool, true, List, [], ◌∷◌, ◌++◌, length, take, drop, get_or, append_assoc, append-nil, map, Option, Some, None, slice_get, refl, ap, sym, ◌∙◌, subst, arith, if◌then◌else◌}
 use Rattle.std.proofs.Math.Seq.{take-length}
 use Rattle.std.specs.List.{AllByRecursion}
 use Rattle.std.specs.Prelude.{max}
-use Rattle.op_table.specs.Kind.{bytes_of, values_of}
+use Rattle.op_table.specs.Kind.{bytes_of}
 use Rattle.target_desc.specs.declared.target.Target.{Target}
 use Rattle.target_desc.specs.Target.{IsTarget}
 use Rattle.place_core.specs.declared.places.Object.{Object}
-use Rattle.place_core.specs.declared.shape.Shape.{Shape}
 use Rattle.place_core.specs.Shapes.{IsShape, IsPlaced, most_in_shape}
 use Rattle.place_core.specs.Validity.{IsSized, IsObject, span_of, span_in, ApartSpans, AllApart}
 use Rattle.place_core.proofs.ShapeTests.{all_objects, apart_spans, shape_is}

@@ -9,7 +9,6 @@ use Rattle.top_call.specs.declared.status.Status.{Status}
 use Rattle.top_call.specs.declared.status.Status.TheVariants.{Done, Refused, Usage, ReadFault, WriteFault, NoMemory}
 use Rattle.top_call.specs.declared.command.Command.{Command}
 use Rattle.top_call.specs.declared.command.Command.TheVariants.{Run, Check, Convert, Plan, Targets, Many}
-use Rattle.top_call.specs.declared.command.WordsFault.{WordsFault}
 use Rattle.top_call.specs.Commands.{reads}
 use Rattle.top_call.specs.Inputs.{WasSpelled, WasFaulty}
 use Rattle.top_call.specs.Outside.{Outside}

@@ -1,7 +1,7 @@
 -- The command line of the program, as clap knows it: six subcommands, of which two have the option `--target` and one has
 -- three values.
 use Rattle.std.specs.Prelude.{[], Some, true, codes}
-use Rattle.clap.specs.Words.{App, Rule, Shape, Text, new_app, new_rule, with_rule, with_subcommand}
+use Rattle.clap.specs.Words.{App, Rule, Text, new_app, new_rule, with_rule, with_subcommand}
 
 -- `--target`, with one value
 abbrev pub target_rule : Rule

@@ -15,7 +15,7 @@ use Rattle.work_lang.specs.Limits.{most_bytes}
 use Rattle.work_lang.specs.Streams.{text_of}
 use Rattle.work_lang.specs.Workload.{Workload, IsWork}
 use Rattle.work_lang.specs.Reading.{State, start, next, with_line, closed, work_of, ended, run, reading_of}
-use Rattle.work_lang.specs.Spelling.{Pairs, speaks, items_of}
+use Rattle.work_lang.specs.Spelling.{Pairs, items_of}
 use Rattle.work_lang.specs.Kept.{Allowed, IsKept}
 use Rattle.work_lang.specs.Canonical.{canonical_lines}
 use Rattle.work_lang.specs.CutLaws.{open_from, open_after, LeavesOpen, OpenByLastLine, cut_text, CutTextIsRead}

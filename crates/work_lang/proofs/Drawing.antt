@@ -1,11 +1,10 @@
 -- Words drawn one after another, and the lines that they give.
-use Rattle.std.proofs.Common.{◌≡◌, ◌∙◌, ℕ, zero, suc, ◌+◌, ◌-◌, ◌*◌, ◌/◌, ◌%◌, ◌^◌, ◌<◌, ◌≤◌, List, [], ◌∷◌, ◌++◌, map, length, refl, sym, ap, ap₂, subst, arith, append_assoc, append-nil}
+use Rattle.std.proofs.Common.{◌≡◌, ◌∙◌, ℕ, zero, suc, ◌-◌, ◌<◌, ◌≤◌, List, [], ◌∷◌, ◌++◌, refl, sym, ap, ap₂, arith, append_assoc, append-nil}
 use Rattle.rand_core.specs.Steps.{first_words}
 use Rattle.rand_pcg.specs.Lcg.{Lcg, state_after}
-use Rattle.rand_pcg.specs.Pcg.{multiplier_128, pcg64}
+use Rattle.rand_pcg.specs.Pcg.{pcg64}
 use Rattle.place_core.specs.declared.script.Piece.{Piece}
 use Rattle.place_core.specs.declared.script.Piece.TheVariants.{One}
-use Rattle.place_core.specs.Pieces.{script_lines}
 use Rattle.work_lang.specs.Generated.{drawn_line, after_words, script_from, scripts_from}
 
 -- the generator after a word

@@ -1,5 +1,5 @@
 -- A generated workload is one: its objects are declared, its calls fit them, and the limits hold.
-use Rattle.std.proofs.Common.{◌≡◌, ◌∙◌, inl, inr, Bool, true, false, ℕ, zero, suc, ◌+◌, ◌*◌, ◌/◌, ◌%◌, ◌^◌, ◌<◌, ◌≤◌, List, [], ◌∷◌, ◌++◌, map, length, refl, sym, ap, ap₂, subst, arith}
+use Rattle.std.proofs.Common.{◌≡◌, ◌∙◌, inl, Bool, true, false, ℕ, zero, suc, ◌*◌, ◌/◌, ◌%◌, ◌<◌, ◌≤◌, List, [], ◌∷◌, map, length, refl, ap, arith}
 use Rattle.std.specs.Prelude.{◌&&◌, None, nat_le}
 use Rattle.std.specs.List.{AllByRecursion, sum_by}
 use Rattle.std.proofs.lemmas.Bool.Decides.{nat_tests}
@@ -12,7 +12,6 @@ use Rattle.place_core.specs.declared.script.Line.{Line}
 use Rattle.place_core.specs.declared.script.Piece.{Piece}
 use Rattle.place_core.specs.declared.script.Piece.TheVariants.{One}
 use Rattle.place_core.specs.DeclaredObjects.{IsDeclared}
-use Rattle.place_core.specs.Pieces.{script_lines}
 use Rattle.target_desc.specs.declared.target.Target.{Target}
 use Rattle.target_desc.specs.Target.{IsTarget}
 use Rattle.place_core.specs.declared.name.Declared.{Declared}

@@ -1,5 +1,5 @@
 -- The second form of a workload: version 2 of the language, where equal lines that follow one another are one block.
-use Rattle.std.specs.Prelude.{◌≡◌, ◌≢◌, ℕ, ◌≤◌, ◌<◌, ◌^◌, ◌⊎◌, List, [], ◌∷◌}
+use Rattle.std.specs.Prelude.{◌≡◌, ◌≢◌, ◌≤◌, ◌<◌, ◌^◌, ◌⊎◌, List, [], ◌∷◌}
 use Rattle.place_core.specs.declared.script.Line.{Line}
 use Rattle.place_core.specs.declared.script.Piece.{Piece}
 use Rattle.place_core.specs.declared.script.Piece.TheVariants.{One, Block}

@@ -1,7 +1,4 @@
-use Rattle.std.proofs.Common.{refl, sym, ap, subst, map, ◌∷◌}
-use Rattle.std.specs.List.{AllByRecursion}
-use Rattle.place_core.specs.declared.name.Declared.{Declared}
-use Rattle.place_core.specs.DeclaredObjects.{IsDeclared}
+use Rattle.std.proofs.Common.{refl, sym, ap, subst}
 use Rattle.work_lang.proofs.Pieces.{writes_fail, writes_then, writes_same}
 use Rattle.report_text.specs.Many.{AreValues, many_with}
 use Rattle.report_text.proofs.many.many_text.Goals as goal

@@ -1,6 +1,4 @@
 use Rattle.std.proofs.Common.{◌≤◌, arith, length, map}
-use Rattle.std.specs.Prelude.{IsSomeAnd}
-use Rattle.op_table.specs.Kind.{values_of}
 use Rattle.work_lang.proofs.Pieces.{wrote_more, wrote_stops, wrote_all}
 use Rattle.report_text.specs.Many.{value_replied}
 use Rattle.report_text.proofs.Walks.{all_at, get_at, pairs_at, pairs_length}

@@ -1,4 +1,4 @@
-use Rattle.std.proofs.Common.{◌∙◌, sym, subst, ap}
+use Rattle.std.proofs.Common.{◌∙◌, sym}
 use Rattle.clap.specs.Words.{kind_of}
 use Rattle.top_call.proofs.WordLines.{command_taken, command_refused}
 use Rattle.top_call.proofs.command.read_words.Goals as goal

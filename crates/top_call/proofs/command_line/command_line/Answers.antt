@@ -1,7 +1,7 @@
-use Rattle.std.proofs.Common.{◌≡◌, ◌∙◌, ap, ap₂, codes}
+use Rattle.std.proofs.Common.{◌∙◌, ap, ap₂}
 use Rattle.std.proofs.lemmas.Result.{IfOk-weaker}
-use Rattle.clap.specs.Words.{App, app_of, with_subcommand}
-use Rattle.top_call.specs.CommandLine.{alone, command_line, generated, program, targeted}
+use Rattle.clap.specs.Words.{App, with_subcommand}
+use Rattle.top_call.specs.CommandLine.{command_line, program}
 use Rattle.top_call.proofs.command_line.command_line.Goals as goal
 
 pub returns : goal.returns

@@ -1,4 +1,4 @@
-use Rattle.std.proofs.Common.{◌≡◌, ◌∙◌, arith, sym, ap, length, length-append, ◌∷◌, ◌++◌, []}
+use Rattle.std.proofs.Common.{◌∙◌, arith, sym, ap, length, length-append, ◌∷◌, ◌++◌, []}
 use Rattle.place_core.specs.declared.script.Piece.TheVariants.{One}
 use Rattle.place_core.specs.Pieces.{script_lines}
 use Rattle.work_lang.proofs.Drawing.{script_drawn, script_done, after_words-more, after_words-none}

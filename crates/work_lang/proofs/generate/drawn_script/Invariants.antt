@@ -1,4 +1,4 @@
-use Rattle.std.specs.Prelude.{◌≡◌, ℕ, ◌+◌, ◌++◌, length}
+use Rattle.std.specs.Prelude.{◌≡◌, ◌+◌, ◌++◌, length}
 use Rattle.place_core.specs.Pieces.{script_lines}
 use Rattle.work_lang.specs.Generated.{after_words, script_from}
 use Rattle.work_lang.proofs.generate.drawn_script.Given as goal
