@@ -1,47 +1,17 @@
 //! A script, run by one pass.
 
-ghost use Rattle.std.specs.Prelude.{◌≡◌, ◌<◌, ◌≤◌, length};
-ghost use Rattle.op_table.specs.Call.{CallFits};
+ghost use Rattle.std.specs.Prelude.{◌≡◌, ◌≤◌, length};
 ghost use Rattle.place_core.specs.Pieces.{script_lines};
 ghost use Rattle.place_core.specs.Runs.{ScriptFits};
-ghost use Rattle.place_core.specs.Shapes.{cells_of_shape, kind_of};
+ghost use Rattle.place_core.specs.Shapes.{cells_of_shape};
 ghost use Rattle.seat_views.specs.declared.view.Flight.TheVariants.{Idle};
 ghost use Rattle.seat_views.specs.States.{IsOf};
-ghost use Rattle.atomic_types.specs.Serving.{Serves};
 ghost use Rattle.runner.specs.Scripts.{RunsLines, RunsUnkept};
 
 use atomic_types::Served;
-use op_table::Reply;
-use place_core::{Gate, Line, Replies, Script};
+use place_core::{Gate, Replies, Script};
 use seat_views::{Arena, Pass};
 use std::sync::Wait;
-
-/// Makes the call of a line, by its path. The gate is told of it before and after, with the thread's number and the
-/// call's.
-#[inline(always)]
-fn make_line<R: Wait, G: Gate>(
-    rt: &R,
-    arena: &Arena,
-    pass: &mut Pass,
-    line: &Line,
-    thread: u32,
-    call: u32,
-    gate: &G,
-) -> Reply
-    requires arena { IsOf arena.now pass.old }
-    requires object { line.now.object < length arena.now.shape.objects }
-    requires fits { CallFits (kind_of arena.now.shape line.now.object) line.now.call }
-    requires rest { pass.old.flight ≡ Idle }
-    ensures { Serves arena.now.shape line.now.object line.now.call pass.old result pass.new }
-{
-    gate.before(thread, call);
-    let served = Served {
-        object: line.object,
-    };
-    let reply = served.call(rt, arena, pass, &line.call);
-    gate.after(thread, call);
-    reply
-}
 
 /// Makes the calls of a script in order, each by its path, and keeps their replies. The gate is told of each call
 /// before it and after, with the thread's number and the call's, counted from 1. A call takes no memory, and waits for
@@ -69,8 +39,13 @@ pub fn run_script<R: Wait, G: Gate>(
             unreachable!()
         };
         let call = done + 1;
-        let reply = make_line(rt, arena, pass, line, thread, call, gate);
+        gate.before(thread, call);
+        let served = Served {
+            object: line.object,
+        };
+        let reply = served.call(rt, arena, pass, &line.call);
         replies.push(reply);
+        gate.after(thread, call);
     }
 }
 
@@ -95,6 +70,12 @@ pub(crate) fn run_unkept<R: Wait, G: Gate>(
         let Some(line) = lines.next() else {
             unreachable!()
         };
-        let _reply = make_line(rt, arena, pass, line, thread, done + 1, gate);
+        let call = done + 1;
+        gate.before(thread, call);
+        let served = Served {
+            object: line.object,
+        };
+        let _reply = served.call(rt, arena, pass, &line.call);
+        gate.after(thread, call);
     }
 }

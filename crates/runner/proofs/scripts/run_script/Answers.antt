@@ -5,11 +5,11 @@ pub loop-done-init : goal.loop-done-init
 loop-done-init g c = script_starts _ _ _ _ _ c.lines-lines.ensures c.requires.rest c.number.ensures.kept
 
 -- the next line is one of the script's, each of which fits
-pub make_line-reply-requires-clause-object : goal.make_line-reply-requires-clause-object
-make_line-reply-requires-clause-object g c κs within = (call_left _ _ _ _ _ _ _ _ _ _ c.loop-done.invariant c.in-Some.ensures.line c.requires.fits).0
+pub call-reply-requires-clause-object : goal.call-reply-requires-clause-object
+call-reply-requires-clause-object g c = (call_left _ _ _ _ _ _ _ _ _ _ c.loop-done.invariant c.in-Some.ensures.line c.requires.fits).0
 
-pub make_line-reply-requires-clause-fits : goal.make_line-reply-requires-clause-fits
-make_line-reply-requires-clause-fits g c κs within = (call_left _ _ _ _ _ _ _ _ _ _ c.loop-done.invariant c.in-Some.ensures.line c.requires.fits).1
+pub call-reply-requires-clause-fits : goal.call-reply-requires-clause-fits
+call-reply-requires-clause-fits g c = (call_left _ _ _ _ _ _ _ _ _ _ c.loop-done.invariant c.in-Some.ensures.line c.requires.fits).1
 
 pub loop-done-preserved : goal.loop-done-preserved
-loop-done-preserved g c = script_more _ _ _ _ _ _ _ _ _ _ _ _ _ c.loop-done.invariant c.in-Some.ensures.line c.make_line-reply.ensures.made c.push.ensures.items c.push.ensures.spare
+loop-done-preserved g c = script_more _ _ _ _ _ _ _ _ _ _ _ _ _ c.loop-done.invariant c.in-Some.ensures.line c.call-reply.ensures.made c.push.ensures.items c.push.ensures.spare
