@@ -1,10 +1,10 @@
 #!/usr/bin/env python3
 """Times typed calls on an arena beside the same calls in plain Rust: calls.py [CALL ..]
 
-Run it at the top of the repository after `rt run` has built crates/call_times/out/call_times. Additions and nands stand
-beside std's atomics; calls on a u128 beside the steps of the sequence lock written by hand, and beside GCC's libatomic
-(Debian's gcc has it). Each is made on one, two and four threads. It prints the medians and their ratios, checks that both
-leave the same values, and adds rows to bench/results.csv.
+Run it at the top of the repository after `rt run` has built crates/call_times/out/call_times. Additions, nands
+and updates stand beside std's atomics; calls on a u128 beside the steps of the sequence lock written by hand, and beside
+GCC's libatomic (Debian's gcc has it). Each is made on one, two and four threads. It prints the medians and their ratios,
+checks that both leave the same values, and adds rows to bench/results.csv.
 """
 import subprocess
 import sys
@@ -21,6 +21,8 @@ CALLS = {
     "wide_load": ["hand", "libatomic"],
     "wide_store": ["hand", "libatomic"],
     "wide_add": ["hand", "libatomic"],
+    "typed_update": ["std"],
+    "raise_update": ["std"],
 }
 # calls of a thread, on one, two and four threads
 TIMES = {1: 20_000_000, 2: 4_000_000, 4: 2_000_000}

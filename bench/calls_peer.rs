@@ -80,6 +80,12 @@ fn once(on: &Objects, peer: &str, call: &str) {
         ("std", "typed_nand") => {
             on.small.0.fetch_nand(170, SeqCst);
         }
+        ("std", "typed_update") => {
+            let _ = on.wide.0.fetch_update(SeqCst, SeqCst, |v| Some(v.wrapping_add(1)));
+        }
+        ("std", "raise_update") => {
+            let _ = on.wide.0.fetch_update(SeqCst, SeqCst, |v| v.checked_add(1));
+        }
         ("hand", "wide_load") => {
             std::hint::black_box(on.load());
         }
@@ -113,6 +119,7 @@ fn turns(on: &Objects, times: u64, peer: &str, call: &str) {
     turns!(
         on, times, peer, call,
         ("std", "served_add"), ("std", "typed_add"), ("std", "typed_nand"),
+        ("std", "typed_update"), ("std", "raise_update"),
         ("hand", "wide_load"), ("hand", "wide_store"), ("hand", "wide_add"),
         ("libatomic", "wide_load"), ("libatomic", "wide_store"), ("libatomic", "wide_add")
     )

@@ -108,6 +108,8 @@ fn call_of(word: &str) -> Option<Timed> {
         "wide_load" => Some(Timed::Load),
         "wide_store" => Some(Timed::Store),
         "wide_add" => Some(Timed::AddPair),
+        "typed_update" => Some(Timed::Update),
+        "raise_update" => Some(Timed::Raise),
         _ => None,
     }
 }

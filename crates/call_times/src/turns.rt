@@ -8,6 +8,7 @@ use atomic_types::Served;
 use op_table::{Call, LoadOrder, Order, StoreOrder};
 use seat_views::{Arena, Pass};
 use std::sync::Wait;
+use update_table::{FetchUpdate, Raise, fetch_update_by};
 
 /// The call that is timed.
 #[derive(Clone, Copy)]
@@ -24,6 +25,10 @@ pub(crate) enum Timed {
     Store,
     /// The typed addition to the u128.
     AddPair,
+    /// The typed update of the u64 by a closure that adds 1.
+    Update,
+    /// The update of the u64 by a rule that adds 1.
+    Raise,
 }
 
 /// Adds 1 to the u64, by a call that names its object by number.
@@ -83,6 +88,40 @@ fn added_pair<R: Wait>(rt: &R, arena: &Arena, on: &Shared, pass: &mut Pass, time
     }
 }
 
+/// Adds 1 to the u64, by a load and exchanges of what a closure answers.
+fn updated<R: Wait>(rt: &R, arena: &Arena, on: &Shared, pass: &mut Pass, times: u64)
+    requires { AreOn arena.now.shape on.now × IsReady arena.now pass.old }
+{
+    let (set, fetch) = (Order::SeqCst, LoadOrder::SeqCst);
+    for _ in 0..times {
+        let _ = on.wide.fetch_update(
+            rt,
+            arena,
+            pass,
+            set,
+            fetch,
+            |v: u64| Some(v.wrapping_add(1)),
+        );
+    }
+}
+
+/// Adds 1 to the u64, by a load and exchanges of what a rule leads to.
+fn raised<R: Wait>(rt: &R, arena: &Arena, on: &Shared, pass: &mut Pass, times: u64)
+    requires { AreOn arena.now.shape on.now × IsReady arena.now pass.old }
+{
+    let wide = Served {
+        object: on.wide.object(),
+    };
+    let rule = Raise {
+        lo: 0,
+        hi: 18_446_744_073_709_551_615,
+        by: 1,
+    };
+    for _ in 0..times {
+        let _ = fetch_update_by(rt, arena, pass, wide, &rule);
+    }
+}
+
 /// Makes a call so many times, and ends the pass.
 pub(crate) fn turns<R: Wait>(
     rt: &R,
@@ -102,6 +141,8 @@ pub(crate) fn turns<R: Wait>(
         Timed::Load => loaded(rt, arena, on, pass, times),
         Timed::Store => stored(rt, arena, on, pass, times),
         Timed::AddPair => added_pair(rt, arena, on, pass, times),
+        Timed::Update => updated(rt, arena, on, pass, times),
+        Timed::Raise => raised(rt, arena, on, pass, times),
     }
 }
 
