@@ -37,7 +37,7 @@ fn write_word<K: Sink>(
     class: PathClass,
     sink: &mut K,
 ) -> Result<(), WriteEnd>
-    ensures { Writes K.taken K.faults K.whole sink.old sink.new result (word_line declared.now operation class ∷ []) }
+    ensures { Writes K.taken K.faults K.tries K.whole sink.old sink.new result (word_line declared.now operation class ∷ []) }
 {
     let mut out = LineBuf::new();
     let name = declared.name;
@@ -59,7 +59,7 @@ fn write_words<K: Sink>(
 ) -> Result<(), WriteEnd>
     requires shape { IsShape shape.now }
     requires place { IsSomeAnd (slice_get shape.now.objects number) (λ a. a.kind ≡ declared.now.kind) }
-    ensures { Writes K.taken K.faults K.whole sink.old sink.new result
+    ensures { Writes K.taken K.faults K.tries K.whole sink.old sink.new result
         (word_lines shape.now number declared.now (operations_of declared.now.kind.class)) }
 {
     let object = shape.objects.at(number as usize);
@@ -120,7 +120,7 @@ fn write_place<K: Sink>(
     sink: &mut K,
 ) -> Result<(), WriteEnd>
     requires { IsKind declared.now.kind }
-    ensures { Writes K.taken K.faults K.whole sink.old sink.new result (object_line declared.now address place ∷ []) }
+    ensures { Writes K.taken K.faults K.tries K.whole sink.old sink.new result (object_line declared.now address place ∷ []) }
 {
     let mut out = LineBuf::new();
     let name = declared.name;
@@ -144,7 +144,7 @@ fn write_object<K: Sink>(
 ) -> Result<(), WriteEnd>
     requires shape { IsShape shape.now }
     requires laid { slice_get shape.now.objects number ≡ Some (laid_at target.now declared.now address) }
-    ensures { Writes K.taken K.faults K.whole sink.old sink.new result
+    ensures { Writes K.taken K.faults K.tries K.whole sink.old sink.new result
         (object_lines target.now shape.now number declared.now address) }
 {
     let place = shape.objects.at(number as usize).place;
@@ -166,7 +166,7 @@ fn write_objects<K: Sink>(
     requires objects { AreDeclared objects.now }
     requires most { length objects.now ≤ most_in_shape }
     requires shape { shape.now ≡ shape_of target.now objects.now }
-    ensures { Writes K.taken K.faults K.whole sink.old sink.new result (lines_from target.now shape.now 0 0 objects.now) }
+    ensures { Writes K.taken K.faults K.tries K.whole sink.old sink.new result (lines_from target.now shape.now 0 0 objects.now) }
 {
     let mut number = 0;
     let mut after = 0;
@@ -195,7 +195,7 @@ pub(crate) fn write_table<K: Sink>(
     requires objects { AreDeclared objects.now }
     requires most { length objects.now ≤ most_in_shape }
     requires shape { shape.now ≡ shape_of target.now objects.now }
-    ensures { Writes K.taken K.faults K.whole sink.old sink.new result (plan_lines target.now objects.now) }
+    ensures { Writes K.taken K.faults K.tries K.whole sink.old sink.new result (plan_lines target.now objects.now) }
 {
     match write_target(target, sink) {
         Ok(()) => {}
@@ -210,7 +210,7 @@ pub(crate) fn write_table<K: Sink>(
 /// was taken is a front of the table.
 pub fn write_plan<K: Sink>(work: &Work, shape: &Shape, sink: &mut K) -> Result<(), WriteEnd>
     requires { shape.now ≡ shape_of work.now.target work.now.objects }
-    ensures { Writes K.taken K.faults K.whole sink.old sink.new result (plan_lines work.now.target work.now.objects) }
+    ensures { Writes K.taken K.faults K.tries K.whole sink.old sink.new result (plan_lines work.now.target work.now.objects) }
 {
     let target = work.target();
     let objects = work.objects();

@@ -51,10 +51,7 @@ fn serve<R: Threads + Wait + Sync, I: Read + Drop, O: Write + Drop>(
     );
     // The process ends next, and its memory with it: nothing is to walk over a million calls to give it back first.
     forget(ended);
-    match sink.close() {
-        Ok(_) => status,
-        Err(_) => Status::WriteFault,
-    }
+    status.closed(sink.close().is_ok())
 }
 
 /// All forms of the words.
@@ -71,7 +68,7 @@ fn main(rt: HostRuntime) -> ExitCode {
         Ok(words) => serve(&rt, rt.alloc(), &words, rt.stdin(), rt.stdout()),
         Err(status) => status,
     };
-    if status == Status::Usage {
+    if status.is_usage() {
         write_usage(&mut rt.stderr());
     }
     ExitCode::from(status.code())

@@ -5,6 +5,7 @@ use Rattle.std.specs.List.{AllByRecursion}
 use mathlib.Core.Logic.{dite}
 use native.Mathlib.Decide.{ℕ_discrete}
 use Rattle.std.proofs.lemmas.Bool.Decides.{nat_tests}
+use Rattle.std.proofs.lemmas.List.{length-map}
 use Rattle.rand_core.specs.Steps.{first_words}
 use Rattle.rand_pcg.specs.Lcg.{Lcg}
 use Rattle.rand_pcg.specs.Pcg.{pcg64}
@@ -16,7 +17,7 @@ use Rattle.place_core.specs.declared.script.Line.{Line}
 use Rattle.place_core.specs.declared.script.Piece.TheVariants.{One}
 use Rattle.place_core.specs.Pieces.{script_lines}
 use Rattle.place_core.specs.Cells.{Cell, value_of}
-use Rattle.place_core.specs.DeclaredObjects.{cells_of}
+use Rattle.place_core.specs.DeclaredObjects.{cells_of, cell_of}
 use Rattle.place_core.specs.Runs.{IsCellRun}
 use Rattle.place_core.proofs.EntryLists.{all_append}
 use Rattle.ledger_sums.specs.declared.families.Family.{Family}
@@ -24,12 +25,13 @@ use Rattle.ledger_sums.specs.declared.families.Family.TheVariants.{Sums, Flips, 
 use Rattle.ledger_sums.specs.Families.{mix_of, suits, all_suit, are_of_one_family}
 use Rattle.ledger_sums.specs.Fixed.{calls_on, lines_of, after_calls, fixed_by, fixed_value, fixed_from}
 use Rattle.ledger_sums.specs.Laws.{IsSoundCell}
+use Rattle.ledger_sums.proofs.Tallying.{length-fixed_from}
 use Rattle.ledger_sums.proofs.LastValues.{fixed_is_last}
 use Rattle.work_lang.specs.Workload.{threads_of}
 use Rattle.work_lang.specs.Generated.{many_of, generated_objects, generator_of, call_on, drawn_line, after_words, script_from, scripts_from}
 use Rattle.report_text.specs.Report.{fixed_of}
 use Rattle.report_text.specs.Many.{many_lines, many_with, value_reply}
-use Rattle.report_text.specs.Laws.{ManyIsFixed}
+use Rattle.report_text.specs.Laws.{ManyIsFixed, HasValue, EachIsFixed}
 use Rattle.report_text.proofs.LastLoads.{values_from, value_replies, last_replies}
 
 -- ---- lines that are drawn
@@ -152,3 +154,20 @@ many_is_fixed seed threads calls H fits run =
     (last_replies cells (threads_of (many_of seed threads calls)) H run
     ∙ replied (values_from cells H 0 cells)
     ∙ ap (map value_reply) (sym (generated_fixed seed threads calls H run)))
+
+-- ---- each object
+
+each_from : (scripts : List (List Line)) → ((o : ℕ) → are_of_one_family (calls_on o (lines_of scripts)) ≡ true) → (o : ℕ) (rest : List Cell) → AllByRecursion HasValue (fixed_from (lines_of scripts) o rest)
+each_from scripts families o [] = tt
+each_from scripts families o (cell ∷ rest) =
+    let calls = calls_on o (lines_of scripts) in
+    let told : fixed_by (Some cell) calls ≡ Some (after_calls cell.kind cell.start calls) = ap (λ (b : Bool). if b then Some (after_calls cell.kind cell.start calls) else None) (families o) in
+    ((after_calls cell.kind cell.start calls, told), each_from scripts families (o + 1) rest)
+
+pub each_is_fixed : EachIsFixed
+unfolding many_of
+each_is_fixed seed threads calls =
+    let scripts = map script_lines (scripts_from threads calls (generator_of seed)) in (
+      length-fixed_from (lines_of scripts) 0 cells ∙ length-map generated_objects cell_of,
+      each_from scripts (λ o. one_family (family_on o) (calls_on o (lines_of scripts)) (all_suited o (lines_of scripts) (threads_drawn threads calls (generator_of seed)))) 0 cells,
+    )

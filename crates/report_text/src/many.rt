@@ -25,7 +25,7 @@ fn push_number(out: &mut LineBuf, number: u64)
 
 /// Writes the line that names the run by its three numbers.
 fn write_head<K: Sink>(seed: u64, threads: u32, calls: u32, sink: &mut K) -> Result<(), WriteEnd>
-    ensures { Writes K.taken K.faults K.whole sink.old sink.new result (many_head seed threads calls ∷ []) }
+    ensures { Writes K.taken K.faults K.tries K.whole sink.old sink.new result (many_head seed threads calls ∷ []) }
 {
     let mut out = LineBuf::new();
     out.push_text(b"many ");
@@ -52,7 +52,7 @@ fn value_replied(reply: &Reply) -> Option<u128>
 fn write_values<K: Sink>(objects: &[Declared], last: &Replies, sink: &mut K) -> Result<(), WriteEnd>
     requires sound { AllByRecursion IsDeclared objects.now }
     requires values { AreValues objects.now last.now.items }
-    ensures { Writes K.taken K.faults K.whole sink.old sink.new result (last_lines objects.now last.now.items (map value_replied last.now.items)) }
+    ensures { Writes K.taken K.faults K.tries K.whole sink.old sink.new result (last_lines objects.now last.now.items (map value_replied last.now.items)) }
 {
     let mut i = 0;
     'objects: while i < last.len() {
@@ -78,7 +78,7 @@ pub fn many_text<K: Sink>(
     sink: &mut K,
 ) -> Result<(), WriteEnd>
     requires last { AreValues work.now.objects last.now.items }
-    ensures { Writes K.taken K.faults K.whole sink.old sink.new result (many_with seed threads calls work.now.objects last.now.items) }
+    ensures { Writes K.taken K.faults K.tries K.whole sink.old sink.new result (many_with seed threads calls work.now.objects last.now.items) }
 {
     let objects = work.objects();
     match write_head(seed, threads, calls, sink) {

@@ -30,7 +30,7 @@ fn write_answered<K: Sink>(
     requires kind { IsKind kind }
     requires fits { ReplyFits kind reply.now }
     requires short { length call.now.text ≤ 139 }
-    ensures { Writes K.taken K.faults K.whole sink.old sink.new result ((call.now.text ++ reply_text kind reply.now ++ 10 ∷ []) ∷ []) }
+    ensures { Writes K.taken K.faults K.tries K.whole sink.old sink.new result ((call.now.text ++ reply_text kind reply.now ++ 10 ∷ []) ∷ []) }
 {
     out.clear();
     out.push_text(call.bytes());
@@ -51,7 +51,7 @@ fn write_reply<K: Sink>(
     requires line { IsSomeAnd (slice_get objects.now line.now.object) (λ d. IsKind d.kind × HasLine line.now d) }
     requires fits { ReplyFits (kind_at objects.now line.now.object) reply.now }
     requires text { IsTextOf objects.now call.old }
-    ensures wrote { Writes K.taken K.faults K.whole sink.old sink.new result (reply_line objects.now line.now reply.now ∷ []) }
+    ensures wrote { Writes K.taken K.faults K.tries K.whole sink.old sink.new result (reply_line objects.now line.now reply.now ∷ []) }
     ensures text { IsTextOf objects.now call.new }
 {
     call.turn_to(objects, line);
@@ -69,7 +69,7 @@ fn write_calls<K: Sink>(
     requires sound { AllByRecursion IsDeclared objects.now }
     requires fits { AllByRecursion (LineFits objects.now) (script_lines script.now) }
     requires answers { AnswerLines objects.now (script_lines script.now) replies.now.items }
-    ensures { Writes K.taken K.faults K.whole sink.old sink.new result (reply_lines objects.now (script_lines script.now) replies.now.items) }
+    ensures { Writes K.taken K.faults K.tries K.whole sink.old sink.new result (reply_lines objects.now (script_lines script.now) replies.now.items) }
 {
     let mut lines = script.lines();
     let mut call = CallText::new();
@@ -88,7 +88,7 @@ fn write_calls<K: Sink>(
 
 /// Writes the line that begins a thread.
 fn write_head<K: Sink>(number: u32, sink: &mut K) -> Result<(), WriteEnd>
-    ensures { Writes K.taken K.faults K.whole sink.old sink.new result (thread_head number ∷ []) }
+    ensures { Writes K.taken K.faults K.tries K.whole sink.old sink.new result (thread_head number ∷ []) }
 {
     let mut out = LineBuf::new();
     out.push_text(b"thread ");
@@ -108,7 +108,7 @@ fn write_threads<K: Sink>(
     requires fits { AllByRecursion (AllByRecursion (LineFits objects.now)) (map script_lines threads.now) }
     requires answers { AnswerThreads objects.now (map script_lines threads.now) (map items_of replies.now) }
     requires few { length threads.now ≤ 64 }
-    ensures { Writes K.taken K.faults K.whole sink.old sink.new result (thread_lines objects.now 1 (map script_lines threads.now) (map items_of replies.now)) }
+    ensures { Writes K.taken K.faults K.tries K.whole sink.old sink.new result (thread_lines objects.now 1 (map script_lines threads.now) (map items_of replies.now)) }
 {
     let mut number = 1;
     let mut threads = threads;
@@ -141,7 +141,7 @@ pub(crate) fn write_last_value<K: Sink>(
 ) -> Result<(), WriteEnd>
     requires sound { IsDeclared object.now }
     requires fits { ReplyFits object.now.kind reply.now }
-    ensures { Writes K.taken K.faults K.whole sink.old sink.new result (last_line object.now reply.now fixed ∷ []) }
+    ensures { Writes K.taken K.faults K.tries K.whole sink.old sink.new result (last_line object.now reply.now fixed ∷ []) }
 {
     let mut out = LineBuf::new();
     let name = object.name;
@@ -163,7 +163,7 @@ fn write_last<K: Sink>(
     requires sound { AllByRecursion IsDeclared objects.now }
     requires answers { AnswerObjects objects.now last.now.items }
     requires whole { length fixed.now ≡ length objects.now }
-    ensures { Writes K.taken K.faults K.whole sink.old sink.new result (last_lines objects.now last.now.items fixed.now) }
+    ensures { Writes K.taken K.faults K.tries K.whole sink.old sink.new result (last_lines objects.now last.now.items fixed.now) }
 {
     let mut i = 0;
     'objects: while i < last.len() {
@@ -191,7 +191,7 @@ pub fn report<K: Sink>(
     requires threads { AnswerThreads work.now.objects (threads_of work.now) (map items_of replies.now) }
     requires last { AnswerObjects work.now.objects last.now.items }
     requires fixed { length fixed.now ≡ length work.now.objects }
-    ensures { Writes K.taken K.faults K.whole sink.old sink.new result (lines_with work.now (map items_of replies.now) last.now.items fixed.now) }
+    ensures { Writes K.taken K.faults K.tries K.whole sink.old sink.new result (lines_with work.now (map items_of replies.now) last.now.items fixed.now) }
 {
     let target = work.target();
     let objects = work.objects();

@@ -6,3 +6,4 @@ pub mod Answering
 pub mod TargetRows
 pub mod Tries
 mod WordLines
+mod FormFacts

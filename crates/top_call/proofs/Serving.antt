@@ -4,6 +4,7 @@ use Rattle.std.specs.Prelude.{Some, None, IfSome, Result}
 use Rattle.std.specs.declared.option.Option.{Option}
 use Rattle.std.proofs.lemmas.List.{drop_all}
 use Rattle.target_desc.specs.declared.target.Target.{Target}
+use Rattle.work_lang.specs.declared.meter.Meter.{Meter}
 use Rattle.work_lang.specs.Streams.{most_read, ReadsAll, LosesFront}
 use Rattle.work_lang.specs.Workload.{Workload}
 use Rattle.work_lang.specs.Generated.{many_fits, many_of}
@@ -56,12 +57,12 @@ module _ {S : Type 0} (left : S → Option (List ℕ)) (faults : S → ℕ) (s s
 
 -- ---- describing and running what was read
 
-module _ {S K : Type 0} (left : S → Option (List ℕ)) (read_faults : S → ℕ) (taken : K → Option (List ℕ)) (write_faults : K → ℕ) (whole : K → Bool) (s s' : S) (k k' : K) where
+module _ {S K : Type 0} (left : S → Option (List ℕ)) (read_faults : S → ℕ) (meter : S → Meter) (taken : K → Option (List ℕ)) (write_faults tries : K → ℕ) (whole : K → Bool) (s s' : S) (k k' : K) where
   abbrev seen_before : Outside
-  seen_before = outside left read_faults taken write_faults whole s k
+  seen_before = outside left read_faults meter taken write_faults tries whole s k
 
   abbrev seen_after : Outside
-  seen_after = outside left read_faults taken write_faults whole s' k'
+  seen_after = outside left read_faults meter taken write_faults tries whole s' k'
 
   -- a command that reads and describes wrote this of its own text
   own : (Wrote : Taking) (command : Command) (w : Workload) → reads command ≡ true → described_by command ≡ Some command → Described Wrote command seen_before seen_after → WroteOwn Wrote command seen_before seen_after None
@@ -73,37 +74,37 @@ module _ {S K : Type 0} (left : S → Option (List ℕ)) (read_faults : S → �
   own Wrote (Many seed threads calls) w r d described = absurd cc
 
   pub describes_work : (command : Command) (w : Workload) (status : Status) → reads command ≡ true → described_by command ≡ Some command → ReadsInput left read_faults s s' (Ok w)
-      → WritesTold taken write_faults whole k k' command w status → SaysOf command seen_before seen_after status None
-  describes_work command w Done r d input wrote = own AllTaken command w r d (record { work = w; told = wrote.0; read = input.0; is_told = wrote.1; written = wrote.2.0 })
+      → WritesTold taken write_faults tries whole k k' command w status → SaysOf command seen_before seen_after status None
+  describes_work command w Done r d input wrote = own AllTaken command w r d (record { work = w; told = wrote.0; read = input.0; is_told = wrote.1; written = (wrote.2.0, wrote.2.1) })
   describes_work command w Refused r d input wrote = absurd wrote
   describes_work command w Usage r d input wrote = absurd wrote
   describes_work command w ReadFault r d input wrote = absurd wrote
   describes_work command w WriteFault r d input wrote =
-      (wrote.2.1, inl (own (FrontTaken seen_before.whole) command w r d (record { work = w; told = wrote.0; read = input.0; is_told = wrote.1; written = wrote.2.0 })))
+      (wrote.2.2, inl (own FrontTaken command w r d (record { work = w; told = wrote.0; read = input.0; is_told = wrote.1; written = (wrote.2.0, wrote.2.1) })))
   describes_work command w NoMemory r d input wrote = refl
 
   pub runs_work : (target : Option Target) (w : Workload) (status : Status) (ended : Option Ended) → ReadsInput left read_faults s s' (Ok w)
-      → RunsWork taken write_faults whole k k' texts.Report (on_target target w) status ended → SaysOf (Run target) seen_before seen_after status ended
+      → RunsWork taken write_faults tries whole k k' texts.Report (on_target target w) status ended → SaysOf (Run target) seen_before seen_after status ended
   runs_work target w Done None input ran = absurd ran
-  runs_work target w Done (Some e) input ran = record { read = record { read = w; spelled = input.0; asked = ran.0.0 }; whole = ran.0.1; written = ran.1.0 }
+  runs_work target w Done (Some e) input ran = record { read = record { read = w; spelled = input.0; asked = ran.0.0 }; whole = ran.0.1; written = (ran.1.0, ran.1.1) }
   runs_work target w Refused ended input ran = absurd ran
   runs_work target w Usage ended input ran = absurd ran
   runs_work target w ReadFault ended input ran = absurd ran
   runs_work target w WriteFault None input ran = absurd ran
-  runs_work target w WriteFault (Some e) input ran = (ran.1.1, inl (record { read = record { read = w; spelled = input.0; asked = ran.0.0 }; whole = ran.0.1; written = ran.1.0 }))
+  runs_work target w WriteFault (Some e) input ran = (ran.1.2, inl (record { read = record { read = w; spelled = input.0; asked = ran.0.0 }; whole = ran.0.1; written = (ran.1.0, ran.1.1) }))
   runs_work target w NoMemory ended input ran = ran.0
 
   -- the line of a fault
   fault_told : (command : Command) (f : Fault) (status : Status) → reads command ≡ true → IfSome (left s) (λ bytes. (reading_of bytes ≡ Err f) × (left s' ≡ Some (drop most_read bytes)))
-      → WritesFault taken write_faults whole k k' (fault_line f.line f.word f.cause ∷ []) status → SaysOf command seen_before seen_after status None
+      → WritesFault taken write_faults tries whole k k' (fault_line f.line f.word f.cause ∷ []) status → SaysOf command seen_before seen_after status None
   fault_told command f Done r read told = absurd told
-  fault_told command f Refused r read told = record { reads = r; fault = f; read = read; written = told.0; none = refl }
+  fault_told command f Refused r read told = record { reads = r; fault = f; read = read; written = (told.0, told.1); none = refl }
   fault_told command f Usage r read told = absurd told
   fault_told command f ReadFault r read told = absurd told
-  fault_told command f WriteFault r read told = (told.1, inr (record { reads = r; fault = f; read = read; written = told.0; none = refl }))
+  fault_told command f WriteFault r read told = (told.2, inr (record { reads = r; fault = f; read = read; written = (told.0, told.1); none = refl }))
   fault_told command f NoMemory r read told = absurd told
 
-  pub tells_unread : (command : Command) (u : Unread) (status : Status) → reads command ≡ true → ReadsInput left read_faults s s' (Err u) → TellsUnread taken write_faults whole k k' u status
+  pub tells_unread : (command : Command) (u : Unread) (status : Status) → reads command ≡ true → ReadsInput left read_faults s s' (Err u) → TellsUnread taken write_faults tries whole k k' u status
       → SaysOf command seen_before seen_after status None
   tells_unread command unread.Source status r input told = subst (λ st. SaysOf command seen_before seen_after st None) (sym told.0) (r, input, refl)
   tells_unread command (unread.Text line word cause) status r input told = fault_told command (record { line = line; word = word; cause = cause }) status r input.0 told
@@ -114,62 +115,62 @@ module _ {S K : Type 0} (left : S → Option (List ℕ)) (read_faults : S → �
   abbrev ReadStays : Type 0
   ReadStays = read_faults s' ≡ read_faults s
 
-  pub own_counts : (lines : List (List ℕ)) (status : Status) → ReadStays → WritesOwn taken write_faults whole k k' lines status → CountsStay status seen_before seen_after
-  own_counts lines Done same wrote = (same, wrote.1)
+  pub own_counts : (lines : List (List ℕ)) (status : Status) → ReadStays → WritesOwn taken write_faults tries whole k k' lines status → CountsStay status seen_before seen_after
+  own_counts lines Done same wrote = (same, wrote.2)
   own_counts lines Refused same wrote = absurd wrote
   own_counts lines Usage same wrote = absurd wrote
   own_counts lines ReadFault same wrote = absurd wrote
   own_counts lines WriteFault same wrote = same
   own_counts lines NoMemory same wrote = (same, ap write_faults wrote)
 
-  pub run_counts : (text : RunText) (w : Workload) (status : Status) (ended : Option Ended) → ReadStays → RunsWork taken write_faults whole k k' text w status ended → CountsStay status seen_before seen_after
+  pub run_counts : (text : RunText) (w : Workload) (status : Status) (ended : Option Ended) → ReadStays → RunsWork taken write_faults tries whole k k' text w status ended → CountsStay status seen_before seen_after
   run_counts text w Done None same ran = absurd ran
-  run_counts text w Done (Some e) same ran = (same, ran.1.1)
+  run_counts text w Done (Some e) same ran = (same, ran.1.2)
   run_counts text w Refused ended same ran = absurd ran
   run_counts text w Usage ended same ran = absurd ran
   run_counts text w ReadFault ended same ran = absurd ran
   run_counts text w WriteFault ended same ran = same
   run_counts text w NoMemory ended same ran = (same, ap write_faults ran.1)
 
-  line_counts : (lines : List (List ℕ)) (status : Status) → ReadStays → WritesFault taken write_faults whole k k' lines status → CountsStay status seen_before seen_after
+  line_counts : (lines : List (List ℕ)) (status : Status) → ReadStays → WritesFault taken write_faults tries whole k k' lines status → CountsStay status seen_before seen_after
   line_counts lines Done same told = absurd told
-  line_counts lines Refused same told = (same, told.1)
+  line_counts lines Refused same told = (same, told.2)
   line_counts lines Usage same told = absurd told
   line_counts lines ReadFault same told = absurd told
   line_counts lines WriteFault same told = same
   line_counts lines NoMemory same told = absurd told
 
-  pub unread_counts : (u : Unread) (status : Status) → ReadsInput left read_faults s s' (Err u) → TellsUnread taken write_faults whole k k' u status → CountsStay status seen_before seen_after
+  pub unread_counts : (u : Unread) (status : Status) → ReadsInput left read_faults s s' (Err u) → TellsUnread taken write_faults tries whole k k' u status → CountsStay status seen_before seen_after
   unread_counts unread.Source status input told = subst (λ st. CountsStay st seen_before seen_after) (sym told.0) (ap write_faults told.1)
   unread_counts (unread.Text line word cause) status input told = line_counts (fault_line line word cause ∷ []) status input.1 told
   unread_counts unread.NoMemory status input told = subst (λ st. CountsStay st seen_before seen_after) (sym told.0) (input, ap write_faults told.1)
 
   -- the lines of a generated run are told by its numbers
   many_written : (Took : Taking) (seed threads calls : ℕ) (e : Ended) → many_fits threads calls ≡ true → IsRunOf (many_of seed threads calls) e
-      → Took seen_before.taken seen_after.taken (run_lines (texts.Many seed threads calls) e.work e.root.seen) → ManyEnded Took seed threads calls seen_before seen_after e
+      → Took seen_before seen_after (run_lines (texts.Many seed threads calls) e.work e.root.seen) → ManyEnded Took seed threads calls seen_before seen_after e
   many_written Took seed threads calls e fits ran wrote = record {
     work = ran.0;
     whole = ran.1;
-    written = subst (Took seen_before.taken seen_after.taken) (many_told seed threads calls e fits ran) wrote;
+    written = subst (Took seen_before seen_after) (many_told seed threads calls e fits ran) wrote;
   }
 
   pub runs_many : (seed threads calls : ℕ) (status : Status) (ended : Option Ended) → many_fits threads calls ≡ true
-      → RunsWork taken write_faults whole k k' (texts.Many seed threads calls) (many_of seed threads calls) status ended → SaysOf (Many seed threads calls) seen_before seen_after status ended
+      → RunsWork taken write_faults tries whole k k' (texts.Many seed threads calls) (many_of seed threads calls) status ended → SaysOf (Many seed threads calls) seen_before seen_after status ended
   runs_many seed threads calls Done None fits ran = absurd ran
-  runs_many seed threads calls Done (Some e) fits ran = many_written AllTaken seed threads calls e fits ran.0 ran.1.0
+  runs_many seed threads calls Done (Some e) fits ran = many_written AllTaken seed threads calls e fits ran.0 (ran.1.0, ran.1.1)
   runs_many seed threads calls Refused ended fits ran = absurd ran
   runs_many seed threads calls Usage ended fits ran = absurd ran
   runs_many seed threads calls ReadFault ended fits ran = absurd ran
   runs_many seed threads calls WriteFault None fits ran = absurd ran
-  runs_many seed threads calls WriteFault (Some e) fits ran = (ran.1.1, inl (many_written (FrontTaken seen_before.whole) seed threads calls e fits ran.0 ran.1.0))
+  runs_many seed threads calls WriteFault (Some e) fits ran = (ran.1.2, inl (many_written FrontTaken seed threads calls e fits ran.0 (ran.1.0, ran.1.1)))
   runs_many seed threads calls NoMemory ended fits ran = ran.0
 
 -- ---- what is left
 
-module _ {K : Type 0} (taken : K → Option (List ℕ)) (faults : K → ℕ) (whole : K → Bool) (k k' : K) where
+module _ {K : Type 0} (taken : K → Option (List ℕ)) (faults tries : K → ℕ) (whole : K → Bool) (k k' : K) where
   -- its own lines are the description of the workload that it tells
-  pub tells_work : (command : Command) (w told : Workload) (status : Status) → IsTold command w told → WritesOwn taken faults whole k k' (description_of command told) status
-      → WritesTold taken faults whole k k' command w status
+  pub tells_work : (command : Command) (w told : Workload) (status : Status) → IsTold command w told → WritesOwn taken faults tries whole k k' (description_of command told) status
+      → WritesTold taken faults tries whole k k' command w status
   tells_work command w told Done is wrote = (told, is, wrote)
   tells_work command w told Refused is wrote = absurd wrote
   tells_work command w told Usage is wrote = absurd wrote
@@ -177,7 +178,7 @@ module _ {K : Type 0} (taken : K → Option (List ℕ)) (faults : K → ℕ) (wh
   tells_work command w told WriteFault is wrote = (told, is, wrote)
   tells_work command w told NoMemory is wrote = wrote
 
-  pub own_unwritten : (lines : List (List ℕ)) (status : Status) → WritesOwn taken faults whole k k' lines status → WhereNotWritten status (k' ≡ k)
+  pub own_unwritten : (lines : List (List ℕ)) (status : Status) → WritesOwn taken faults tries whole k k' lines status → WhereNotWritten status (k' ≡ k)
   own_unwritten lines Done wrote = tt
   own_unwritten lines Refused wrote = absurd wrote
   own_unwritten lines Usage wrote = absurd wrote
@@ -185,7 +186,7 @@ module _ {K : Type 0} (taken : K → Option (List ℕ)) (faults : K → ℕ) (wh
   own_unwritten lines WriteFault wrote = tt
   own_unwritten lines NoMemory wrote = wrote
 
-  pub run_unwritten : (text : RunText) (w : Workload) (status : Status) (ended : Option Ended) → RunsWork taken faults whole k k' text w status ended → WhereNotWritten status (k' ≡ k)
+  pub run_unwritten : (text : RunText) (w : Workload) (status : Status) (ended : Option Ended) → RunsWork taken faults tries whole k k' text w status ended → WhereNotWritten status (k' ≡ k)
   run_unwritten text w Done ended ran = tt
   run_unwritten text w Refused ended ran = absurd ran
   run_unwritten text w Usage ended ran = absurd ran
@@ -193,7 +194,7 @@ module _ {K : Type 0} (taken : K → Option (List ℕ)) (faults : K → ℕ) (wh
   run_unwritten text w WriteFault ended ran = tt
   run_unwritten text w NoMemory ended ran = ran.1
 
-  line_unwritten : (lines : List (List ℕ)) (status : Status) → WritesFault taken faults whole k k' lines status → WhereNotWritten status (k' ≡ k)
+  line_unwritten : (lines : List (List ℕ)) (status : Status) → WritesFault taken faults tries whole k k' lines status → WhereNotWritten status (k' ≡ k)
   line_unwritten lines Done told = tt
   line_unwritten lines Refused told = tt
   line_unwritten lines Usage told = absurd told
@@ -201,22 +202,22 @@ module _ {K : Type 0} (taken : K → Option (List ℕ)) (faults : K → ℕ) (wh
   line_unwritten lines WriteFault told = tt
   line_unwritten lines NoMemory told = absurd told
 
-  pub unread_unwritten : (u : Unread) (status : Status) → TellsUnread taken faults whole k k' u status → WhereNotWritten status (k' ≡ k)
+  pub unread_unwritten : (u : Unread) (status : Status) → TellsUnread taken faults tries whole k k' u status → WhereNotWritten status (k' ≡ k)
   unread_unwritten unread.Source status told = subst (λ st. WhereNotWritten st (k' ≡ k)) (sym told.0) told.1
   unread_unwritten (unread.Text line word cause) status told = line_unwritten (fault_line line word cause ∷ []) status told
   unread_unwritten unread.NoMemory status told = subst (λ st. WhereNotWritten st (k' ≡ k)) (sym told.0) told.1
 
 -- ---- the targets
 
-pub serves_targets : {S K : Type 0} (left : S → Option (List ℕ)) (read_faults : S → ℕ) (taken : K → Option (List ℕ)) (write_faults : K → ℕ) (whole : K → Bool) (s : S) (k k' : K) (status : Status)
-    → WritesOwn taken write_faults whole k k' targets_lines status
-    → SaysOf Targets (outside left read_faults taken write_faults whole s k) (outside left read_faults taken write_faults whole s k') status None
-serves_targets left read_faults taken write_faults whole s k k' Done wrote = (refl, wrote.0)
-serves_targets left read_faults taken write_faults whole s k k' Refused wrote = absurd wrote
-serves_targets left read_faults taken write_faults whole s k k' Usage wrote = absurd wrote
-serves_targets left read_faults taken write_faults whole s k k' ReadFault wrote = absurd wrote
-serves_targets left read_faults taken write_faults whole s k k' WriteFault wrote = (wrote.1, inl (refl, wrote.0))
-serves_targets left read_faults taken write_faults whole s k k' NoMemory wrote = refl
+pub serves_targets : {S K : Type 0} (left : S → Option (List ℕ)) (read_faults : S → ℕ) (meter : S → Meter) (taken : K → Option (List ℕ)) (write_faults tries : K → ℕ) (whole : K → Bool) (s : S) (k k' : K) (status : Status)
+    → WritesOwn taken write_faults tries whole k k' targets_lines status
+    → SaysOf Targets (outside left read_faults meter taken write_faults tries whole s k) (outside left read_faults meter taken write_faults tries whole s k') status None
+serves_targets left read_faults meter taken write_faults tries whole s k k' Done wrote = (refl, (wrote.0, wrote.1))
+serves_targets left read_faults meter taken write_faults tries whole s k k' Refused wrote = absurd wrote
+serves_targets left read_faults meter taken write_faults tries whole s k k' Usage wrote = absurd wrote
+serves_targets left read_faults meter taken write_faults tries whole s k k' ReadFault wrote = absurd wrote
+serves_targets left read_faults meter taken write_faults tries whole s k k' WriteFault wrote = (wrote.2, inl (refl, (wrote.0, wrote.1)))
+serves_targets left read_faults meter taken write_faults tries whole s k k' NoMemory wrote = refl
 
 -- ---- the top call
 

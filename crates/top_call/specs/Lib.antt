@@ -7,3 +7,5 @@ pub mod Texts
 pub mod Status
 pub mod Writing
 pub mod Running
+pub mod Preparing
+pub mod Forms

@@ -25,10 +25,10 @@ run_lines texts.Report w H = report_lines w H
 run_lines (texts.Many seed threads calls) w H = many_with seed threads calls w.objects (replies_by H 0)
 
 -- the workload was run, and its lines written whole, or a prefix of it at a fault; or nothing came of it, out of memory
-abbrev pub RunsWork : {K : Type 0} → (K → Option (List ℕ)) → (K → ℕ) → (K → Bool) → K → K → RunText → Workload → Status → Option Ended → Type 0
-RunsWork taken faults whole old new text w Done ended = IsSomeAnd ended (λ e. IsRunOf w e × Took taken faults old new (run_lines text e.work e.root.seen))
-RunsWork taken faults whole old new text w Refused ended = ⊥
-RunsWork taken faults whole old new text w Usage ended = ⊥
-RunsWork taken faults whole old new text w ReadFault ended = ⊥
-RunsWork taken faults whole old new text w WriteFault ended = IsSomeAnd ended (λ e. IsRunOf w e × TookFront taken faults whole old new (run_lines text e.work e.root.seen))
-RunsWork taken faults whole old new text w NoMemory ended = (ended ≡ None) × (new ≡ old)
+abbrev pub RunsWork : {K : Type 0} → (K → Option (List ℕ)) → (K → ℕ) → (K → ℕ) → (K → Bool) → K → K → RunText → Workload → Status → Option Ended → Type 0
+RunsWork taken faults tries whole old new text w Done ended = IsSomeAnd ended (λ e. IsRunOf w e × Took taken faults tries whole old new (run_lines text e.work e.root.seen))
+RunsWork taken faults tries whole old new text w Refused ended = ⊥
+RunsWork taken faults tries whole old new text w Usage ended = ⊥
+RunsWork taken faults tries whole old new text w ReadFault ended = ⊥
+RunsWork taken faults tries whole old new text w WriteFault ended = IsSomeAnd ended (λ e. IsRunOf w e × TookFront taken faults tries whole old new (run_lines text e.work e.root.seen))
+RunsWork taken faults tries whole old new text w NoMemory ended = (ended ≡ None) × (new ≡ old)

@@ -1,5 +1,5 @@
 -- What each status of the program says.
-use Rattle.std.specs.Prelude.{◌≡◌, ◌⊎◌, ℕ, Bool, true, false, List, [], ◌∷◌, ◌++◌, Some, None, IsSomeAnd, MatchOption, MatchResult, codes}
+use Rattle.std.specs.Prelude.{◌≡◌, ◌⊎◌, ℕ, Bool, true, false, List, [], ◌∷◌, ◌++◌, length, Some, None, IsSomeAnd, MatchOption, MatchResult, codes}
 use Rattle.std.specs.declared.option.Option.{Option}
 use Rattle.std.specs.Fmt.{decimal}
 use Rattle.std.specs.Io.KnownBytes.{Appends}
@@ -7,6 +7,7 @@ use Rattle.target_desc.specs.declared.target.Target.{Target}
 use Rattle.layout_plan.specs.Layout.{shape_of}
 use Rattle.work_lang.specs.declared.fault.Cause.{Cause}
 use Rattle.work_lang.specs.declared.fault.Cause.TheVariants as causes
+use Rattle.work_lang.specs.Counts.{raised}
 use Rattle.work_lang.specs.Faults.{Rose}
 use Rattle.work_lang.specs.Streams.{text_of, AppendsFront, AppendsFirst}
 use Rattle.work_lang.specs.Workload.{Workload, threads_of}
@@ -52,17 +53,19 @@ fault_line line word cause = codes "line " ++ decimal line ++ codes " word " ++ 
 
 -- ---- what was read and written
 
--- how the bytes taken changed by lines, each with its end
+-- how the sink changed by lines, each with its end
 abbrev pub Taking : Type 1
-Taking = Option (List ℕ) → Option (List ℕ) → List (List ℕ) → Type 0
+Taking = Outside → Outside → List (List ℕ) → Type 0
 
--- all of their text was taken
+-- all of their text was taken, by one write a line where each is taken whole or not at all
 abbrev pub AllTaken : Taking
-AllTaken old new lines = Appends old new (text_of lines)
+AllTaken before after lines = Appends before.taken after.taken (text_of lines) × (before.whole ≡ true → after.tries ≡ raised before.tries (length lines))
 
--- a front of their text was taken, and not all of it: the first lines, where each is taken whole or not at all
-abbrev pub FrontTaken : Bool → Taking
-FrontTaken whole old new lines = AppendsFront old new (text_of lines) × (whole ≡ true → AppendsFirst old new lines)
+-- a front of their text was taken, and not all of it: the first lines, where each is taken whole or not at all, by one
+-- write a line, and the write that failed
+abbrev pub FrontTaken : Taking
+FrontTaken before after lines = AppendsFront before.taken after.taken (text_of lines)
+    × (before.whole ≡ true → AppendsFirst before.taken after.taken before.tries after.tries lines)
 
 -- a workload was read, of which this is the one on the target that is asked for: where the source tells its bytes, they
 -- spell that workload and were read to their end
@@ -76,7 +79,7 @@ pub record WasRead (target : Option Target) (before after : Outside) (work : Wor
 pub record RunEnded (Took : Taking) (target : Option Target) (before after : Outside) (e : Ended) : Type 0 where
   pub read : WasRead target before after e.work
   pub whole : RanWhole (shape_of e.work.target e.work.objects) (threads_of e.work) e.arena e.root
-  pub written : Took before.taken after.taken (report_lines e.work e.root.seen)
+  pub written : Took before after (report_lines e.work e.root.seen)
 
 -- a workload was read, and this was written of the command's description of it
 pub record Described (Took : Taking) (command : Command) (before after : Outside) : Type 0 where
@@ -84,14 +87,14 @@ pub record Described (Took : Taking) (command : Command) (before after : Outside
   pub told : Workload
   pub read : WasSpelled before.left after.left work
   pub is_told : IsTold command work told
-  pub written : Took before.taken after.taken (description_of command told)
+  pub written : Took before after (description_of command told)
 
 -- a run of the workload of these three numbers has ended, on the arena of its layout; and this was written of its lines,
 -- which are told by the numbers alone
 pub record ManyEnded (Took : Taking) (seed threads calls : ℕ) (before after : Outside) (e : Ended) : Type 0 where
   pub work : e.work ≡ many_of seed threads calls
   pub whole : RanWhole (shape_of e.work.target e.work.objects) (threads_of e.work) e.arena e.root
-  pub written : Took before.taken after.taken (many_lines seed threads calls)
+  pub written : Took before after (many_lines seed threads calls)
 
 -- this was written of the command's own lines; a run has ended only where the command runs
 abbrev pub WroteOwn : Taking → Command → Outside → Outside → Option Ended → Type 0
@@ -99,7 +102,7 @@ WroteOwn Took (Run t) before after ended = IsSomeAnd ended (RunEnded Took t befo
 WroteOwn Took Check before after ended = (ended ≡ None) × Described Took Check before after
 WroteOwn Took Convert before after ended = (ended ≡ None) × Described Took Convert before after
 WroteOwn Took (Plan t) before after ended = (ended ≡ None) × Described Took (Plan t) before after
-WroteOwn Took Targets before after ended = (ended ≡ None) × Took before.taken after.taken targets_lines
+WroteOwn Took Targets before after ended = (ended ≡ None) × Took before after targets_lines
 WroteOwn Took (Many seed threads calls) before after ended = IsSomeAnd ended (ManyEnded Took seed threads calls before after)
 
 -- a text with a fault was read, and this was written of the fault's line; nothing was run
@@ -107,7 +110,7 @@ pub record FaultTold (Took : Taking) (command : Command) (before after : Outside
   pub reads : reads command ≡ true
   pub fault : Fault
   pub read : WasFaulty before.left after.left fault
-  pub written : Took before.taken after.taken (fault_line fault.line fault.word fault.cause ∷ [])
+  pub written : Took before after (fault_line fault.line fault.word fault.cause ∷ [])
   pub none : ended ≡ None
 
 -- ---- statuses
@@ -119,7 +122,7 @@ SaysOf command before after Refused ended = FaultTold AllTaken command before af
 SaysOf command before after Usage ended = ⊥
 SaysOf command before after ReadFault ended = (reads command ≡ true) × Rose before.read_faults after.read_faults × (ended ≡ None)
 SaysOf command before after WriteFault ended =
-    Rose before.write_faults after.write_faults × (WroteOwn (FrontTaken before.whole) command before after ended ⊎ FaultTold (FrontTaken before.whole) command before after ended)
+    Rose before.write_faults after.write_faults × (WroteOwn FrontTaken command before after ended ⊎ FaultTold FrontTaken command before after ended)
 SaysOf command before after NoMemory ended = ended ≡ None
 
 -- the status of words that ask for nothing

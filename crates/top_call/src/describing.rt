@@ -32,7 +32,8 @@ pub(crate) fn on_target(work: Work, target: Option<Target>) -> Work
 
 /// Writes the canonical text of a workload.
 fn check_work<K: Sink>(work: &Work, sink: &mut K) -> Status
-    ensures { WritesOwn K.taken K.faults K.whole sink.old sink.new (description_of Command.Check work.now) result }
+    ensures wrote { WritesOwn K.taken K.faults K.tries K.whole sink.old sink.new (description_of Command.Check work.now) result }
+    ensures kept { K.whole sink.new ≡ K.whole sink.old }
 {
     match print_work(work, sink) {
         Ok(()) => Status::Done,
@@ -42,7 +43,8 @@ fn check_work<K: Sink>(work: &Work, sink: &mut K) -> Status
 
 /// Writes the plan table of a workload.
 fn plan_work<K: Sink>(alloc: Global, work: &Work, sink: &mut K) -> Status
-    ensures { WritesOwn K.taken K.faults K.whole sink.old sink.new (description_of (Command.Plan None) work.now) result }
+    ensures wrote { WritesOwn K.taken K.faults K.tries K.whole sink.old sink.new (description_of (Command.Plan None) work.now) result }
+    ensures kept { K.whole sink.new ≡ K.whole sink.old }
 {
     match lay(alloc, work.target(), work.objects()) {
         Err(NoMemory) => Status::NoMemory,
@@ -55,7 +57,8 @@ fn plan_work<K: Sink>(alloc: Global, work: &Work, sink: &mut K) -> Status
 
 /// Writes the canonical text of a workload in version 2.
 fn convert_work<K: Sink>(alloc: Global, work: Work, sink: &mut K) -> Status
-    ensures { WritesTold K.taken K.faults K.whole sink.old sink.new Command.Convert work result }
+    ensures wrote { WritesTold K.taken K.faults K.tries K.whole sink.old sink.new Command.Convert work result }
+    ensures kept { K.whole sink.new ≡ K.whole sink.old }
 {
     match to_second(alloc, work) {
         Ok(second) => match print_work(&second, sink) {
@@ -76,7 +79,8 @@ pub(crate) fn describe_work<K: Sink>(
     requires describes { described_by command ≡ Some command }
     requires reads { reads command ≡ true }
     requires asked { IsAsked command }
-    ensures { WritesTold K.taken K.faults K.whole sink.old sink.new command work result }
+    ensures wrote { WritesTold K.taken K.faults K.tries K.whole sink.old sink.new command work result }
+    ensures kept { K.whole sink.new ≡ K.whole sink.old }
 {
     match command {
         Command::Check => check_work(&work, sink),
@@ -90,7 +94,7 @@ pub(crate) fn describe_work<K: Sink>(
 #[tactic(auto, using(crate::proofs::TargetRows::row_is_short))]
 fn write_row<K: Sink>(name: &str, target: &Target, sink: &mut K) -> Result<(), WriteEnd>
     requires { IsName name.now target.now }
-    ensures { Writes K.taken K.faults K.whole sink.old sink.new result (target_row (name.now, target.now) ∷ []) }
+    ensures { Writes K.taken K.faults K.tries K.whole sink.old sink.new result (target_row (name.now, target.now) ∷ []) }
 {
     let mut line = LineBuf::new();
     line.push_text(name.as_bytes());
@@ -103,7 +107,7 @@ fn write_row<K: Sink>(name: &str, target: &Target, sink: &mut K) -> Result<(), W
 /// Writes built-in targets, each as its name and its description.
 fn write_rows<K: Sink>(rows: &[(&str, Target)], sink: &mut K) -> Result<(), WriteEnd>
     requires { AllByRecursion IsRow (map (λ row. (row.0.now, row.1)) rows.now) }
-    ensures { Writes K.taken K.faults K.whole sink.old sink.new result
+    ensures { Writes K.taken K.faults K.tries K.whole sink.old sink.new result
         (map target_row (map (λ row. (row.0.now, row.1)) rows.now)) }
 {
     for row in rows {
@@ -117,14 +121,15 @@ fn write_rows<K: Sink>(rows: &[(&str, Target)], sink: &mut K) -> Result<(), Writ
 
 /// Writes all built-in targets.
 fn write_targets<K: Sink>(sink: &mut K) -> Result<(), WriteEnd>
-    ensures { Writes K.taken K.faults K.whole sink.old sink.new result targets_lines }
+    ensures { Writes K.taken K.faults K.tries K.whole sink.old sink.new result targets_lines }
 {
     write_rows(builtins(), sink)
 }
 
 /// Writes the text of the built-in targets.
 pub(crate) fn tell_targets<K: Sink>(sink: &mut K) -> Status
-    ensures { WritesOwn K.taken K.faults K.whole sink.old sink.new targets_lines result }
+    ensures wrote { WritesOwn K.taken K.faults K.tries K.whole sink.old sink.new targets_lines result }
+    ensures kept { K.whole sink.new ≡ K.whole sink.old }
 {
     match write_targets(sink) {
         Ok(()) => Status::Done,
@@ -134,7 +139,8 @@ pub(crate) fn tell_targets<K: Sink>(sink: &mut K) -> Status
 
 /// Tells why there is no workload: the fault of a text is written as one line.
 pub(crate) fn tell_unread<K: Sink>(unread: Unread, sink: &mut K) -> Status
-    ensures { TellsUnread K.taken K.faults K.whole sink.old sink.new unread result }
+    ensures wrote { TellsUnread K.taken K.faults K.tries K.whole sink.old sink.new unread result }
+    ensures kept { K.whole sink.new ≡ K.whole sink.old }
 {
     match unread {
         Unread::Source => Status::ReadFault,

@@ -48,7 +48,7 @@ pub fn write_fault<K: Sink>(
     cause: Cause,
     sink: &mut K,
 ) -> Result<(), WriteEnd>
-    ensures { Writes K.taken K.faults K.whole sink.old sink.new result (fault_line line word cause ∷ []) }
+    ensures { Writes K.taken K.faults K.tries K.whole sink.old sink.new result (fault_line line word cause ∷ []) }
 {
     let mut out = LineBuf::new();
     out.push_text(b"line ");

@@ -1,7 +1,8 @@
 //! Reading a workload from a source.
 
 ghost use Rattle.std.specs.Prelude.{◌≡◌};
-ghost use Rattle.work_lang.specs.Streams.{LosesFront};
+ghost use Rattle.work_lang.specs.Counts.{ReadsNoFurther};
+ghost use Rattle.work_lang.specs.Streams.{most_read, LosesFront};
 ghost use Rattle.top_call.specs.Inputs.{ReadsText, ReadsInput};
 
 use std::alloc::Global;
@@ -34,6 +35,7 @@ fn work_of(alloc: Global, text: &[u8]) -> Result<Work, Unread>
 pub(crate) fn read_input<S: Source>(alloc: Global, source: &mut S) -> Result<Work, Unread>
     ensures read { ReadsInput S.left S.faults source.old source.new result }
     ensures front { LosesFront S.left source.old source.new }
+    ensures further { ReadsNoFurther most_read (S.meter source.old) (S.meter source.new) }
 {
     let text = match read_all(alloc, source) {
         Ok(text) => text,

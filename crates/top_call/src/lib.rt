@@ -7,7 +7,9 @@ mod command_line;
 mod describing;
 mod faults;
 mod input;
+pub mod laws;
 mod outcome;
+mod prepared;
 mod real;
 mod run_text;
 mod running;
@@ -24,6 +26,8 @@ pub use top::{describe, portable_call};
 mod describe_tests;
 #[cfg(test)]
 mod edge_tests;
+#[cfg(test)]
+mod gate_tests;
 #[cfg(test)]
 mod many_tests;
 #[cfg(test)]

@@ -13,8 +13,8 @@ pub struct Ended {
     pub work: Work,
 }
 
-/// What a call of the program came to: its status, and the run that ended, where one did. That is at Done of `run`, and
-/// at a WriteFault that came while the report was written.
+/// What a call of the program came to: its status, and the run that ended, where one did. That is at Done of `run` and of
+/// `many`, and at a WriteFault that came while the run was told.
 #[derive(Drop)]
 pub struct Outcome {
     pub status: Status,

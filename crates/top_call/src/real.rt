@@ -4,12 +4,13 @@ ghost use Rattle.std.specs.Prelude.{◌≡◌, ◌<◌, ◌≤◌, false, [], le
 ghost use Rattle.std.specs.Io.{ReadsAtMost, WritesAtMost};
 ghost use Rattle.std.specs.Io.Buffered.{writer_contents, writer_buffer, writer_inner};
 ghost use Rattle.std.specs.Io.KnownBytes.{Keeps, ReadConsumes, WriteAppends};
+ghost use Rattle.work_lang.specs.Counts.{new_meter};
 ghost use Rattle.work_lang.specs.Faults.{last_count, HasCause};
 
 use op_table::NoMemory;
 use std::alloc::Global;
 use std::io::{BufWriter, ErrorKind, Read, Write};
-use work_lang::{Failed, Sink, Source};
+use work_lang::{Failed, Meter, Sink, Source};
 
 /// The count of faults after an answer: one more where it is Failed.
 fn count_after(faults: u64, answer: &Result<usize, Failed>) -> u64
@@ -43,6 +44,7 @@ fn read_again<R: Read + Drop>(reader: &mut R, buffer: &mut [u8]) -> Result<usize
 pub struct ReadSource<R: Read + Drop> {
     reader: R,
     faults: u64,
+    meter: Meter,
 }
 
 impl<R: Read + Drop> ReadSource<R> {
@@ -50,8 +52,13 @@ impl<R: Read + Drop> ReadSource<R> {
     pub fn new(reader: R) -> Self
         ensures reader { result.reader ≡ reader }
         ensures faults { result.faults ≡ 0 }
+        ensures meter { result.meter ≡ new_meter }
     {
-        ReadSource { reader, faults: 0 }
+        ReadSource {
+            reader,
+            faults: 0,
+            meter: Meter::new(),
+        }
     }
 }
 
@@ -60,9 +67,12 @@ impl<R: Read + Drop> Source for ReadSource<R> {
 
     ghost faults = { λ s. s.faults };
 
+    ghost meter = { λ s. s.meter };
+
     fn read(&mut self, buffer: &mut [u8]) -> Result<usize, Failed> {
         let answer = read_again(&mut self.reader, buffer);
         self.faults = count_after(self.faults, &answer);
+        self.meter.count(&answer, buffer.len());
         answer
     }
 }
@@ -92,6 +102,7 @@ fn write_again<W: Write + Drop>(writer: &mut BufWriter<W>, piece: &[u8]) -> Resu
 pub struct WriteSink<W: Write + Drop> {
     writer: BufWriter<W>,
     faults: u64,
+    tries: u64,
 }
 
 /// Tells a writer that no more bytes come. Where that is interrupted it is told again.
@@ -114,9 +125,14 @@ impl<W: Write + Drop> WriteSink<W> {
         ensures writer { IfOk result (λ s. writer_inner s.writer ≡ writer) }
         ensures empty { IfOk result (λ s. writer_buffer s.writer ≡ []) }
         ensures faults { IfOk result (λ s. s.faults ≡ 0) }
+        ensures tries { IfOk result (λ s. s.tries ≡ 0) }
     {
         match BufWriter::with_capacity(alloc, BUFFER_SIZE, writer) {
-            Ok(writer) => Ok(WriteSink { writer, faults: 0 }),
+            Ok(writer) => Ok(WriteSink {
+                writer,
+                faults: 0,
+                tries: 0,
+            }),
             Err(_) => Err(NoMemory),
         }
     }
@@ -142,11 +158,14 @@ impl<W: Write + Drop> Sink for WriteSink<W> {
 
     ghost faults = { λ s. s.faults };
 
+    ghost tries = { λ s. s.tries };
+
     ghost whole = { λ s. false };
 
     fn write(&mut self, piece: &[u8]) -> Result<usize, Failed> {
         let answer = write_again(&mut self.writer, piece);
         self.faults = count_after(self.faults, &answer);
+        self.tries = self.tries.saturating_add(1);
         answer
     }
 }

@@ -1,8 +1,6 @@
 //! Running a workload on an arena, and what is written of it.
 
-ghost use Rattle.std.specs.Prelude.{◌≡◌, true, map, IfOk, Some};
-ghost use Rattle.layout_plan.specs.Layout.{shape_of};
-ghost use Rattle.place_core.specs.Shapes.{IsShape};
+ghost use Rattle.std.specs.Prelude.{◌≡◌, ◌≢◌, true, map, Some};
 ghost use Rattle.place_core.specs.Runs.{replies_by, replies_from};
 ghost use Rattle.work_lang.specs.Streams.{Writes};
 ghost use Rattle.work_lang.specs.Workload.{threads_of};
@@ -10,21 +8,22 @@ ghost use Rattle.work_lang.specs.Generated.{many_fits, many_of};
 ghost use Rattle.report_text.specs.Report.{report_lines, fixed_of, items_of};
 ghost use Rattle.runner.specs.declared.worker.Keep.TheVariants as keeps;
 ghost use Rattle.top_call.specs.declared.run_text.RunText.TheVariants as texts;
+ghost use Rattle.whole_run.specs.Ready.{scripts_in, keep_in};
+ghost use Rattle.whole_run.specs.WholeRuns.{no_replies};
+ghost use Rattle.top_call.specs.Preparing.{work_in, IsPrepared};
 ghost use Rattle.top_call.specs.Running.{IsRunOf, RunsWork, run_lines};
 
 use crate::outcome::{Ended, Outcome};
+use crate::prepared::{Prepared, prepare};
 use crate::run_text::RunText;
 use crate::status::Status;
-use layout_plan::lay;
-use ledger_sums::{Fixed, fixed_values};
+use ledger_sums::Fixed;
 use op_table::NoMemory;
-use place_core::{Gate, Replies, Shape};
+use place_core::{Gate, Replies};
 use report_text::{many_text, report};
-use runner::Keep;
 use std::alloc::Global;
 use std::sync::Wait;
 use std::thread::Threads;
-use whole_run::run_whole;
 use work_lang::{Sink, Work, WriteEnd, make_many};
 
 /// A run that ended, the fixed values and the replies of each thread where its text tells them, and the replies of the
@@ -37,64 +36,29 @@ struct Ran {
     last: Replies,
 }
 
-/// The fixed values of a workload's objects, which have this shape.
-fn fixed_on(alloc: Global, shape: &Shape, work: &Work) -> Result<Fixed, NoMemory>
-    requires valid { IsShape shape.now }
-    requires laid { shape.now ≡ shape_of work.now.target work.now.objects }
-    ensures { IfOk result (λ f. f ≡ fixed_of work.now) }
-{
-    // Only for its clause, on what the type of a workload keeps.
-    let _target = work.target();
-    let fixed = fixed_values(alloc, shape, work.threads())?;
-    Ok(fixed)
-}
-
-/// The fixed values of a workload's objects, where the text tells them.
-fn fixed_for(
-    alloc: Global,
-    text: RunText,
-    shape: &Shape,
-    work: &Work,
-) -> Result<Option<Fixed>, NoMemory>
-    requires valid { IsShape shape.now }
-    requires laid { shape.now ≡ shape_of work.now.target work.now.objects }
-    ensures { IfOk result (λ f. text ≡ texts.Report → f ≡ Some (fixed_of work.now)) }
-{
-    match text {
-        RunText::Report => Ok(Some(fixed_on(alloc, shape, work)?)),
-        RunText::Many { .. } => Ok(None),
-    }
-}
-
-/// What is kept of the calls, which only a report tells.
-fn kept_for(text: RunText) -> Keep
-    ensures { text ≡ texts.Report → result ≡ keeps.Replies }
-{
-    match text {
-        RunText::Report => Keep::Replies,
-        RunText::Many { .. } => Keep::Nothing,
-    }
-}
-
-/// Lays the objects of a workload, tells their fixed values where its text has them, and runs its scripts on an arena of
-/// that shape. The scripts are not copied: the run takes them, and the workload gets them back.
-fn run_scripts<R: Threads + Wait + Sync, G: Gate>(
+/// Runs a workload that is ready, a thread for each script. It takes no memory. The workload gets its scripts back.
+fn run_prepared<R: Threads + Wait + Sync, G: Gate>(
     rt: &R,
-    alloc: Global,
-    work: Work,
+    prepared: Prepared,
     text: RunText,
     gate: &G,
-) -> Result<Ran, NoMemory>
-    ensures run { IfOk result (λ r. IsRunOf work r.ended) }
-    ensures fixed { IfOk result (λ r. text ≡ texts.Report → r.fixed ≡ Some (fixed_of work)) }
-    ensures replies { IfOk result (λ r. text ≡ texts.Report → map items_of r.replies.items ≡ replies_from r.ended.root.seen 1 (threads_of work)) }
-    ensures last { IfOk result (λ r. r.last.items ≡ replies_by r.ended.root.seen 0) }
+) -> Ran
+    requires { IsPrepared text prepared }
+    ensures run { IsRunOf (work_in prepared) result.ended }
+    ensures fixed { text ≡ texts.Report → result.fixed ≡ Some (fixed_of (work_in prepared)) }
+    ensures replies { text ≡ texts.Report → map items_of result.replies.items ≡ replies_from result.ended.root.seen 1 (threads_of (work_in prepared)) }
+    ensures none { keep_in prepared.ready ≡ keeps.Nothing → map items_of result.replies.items ≡ no_replies (scripts_in prepared.ready) }
+    ensures last { result.last.items ≡ replies_by result.ended.root.seen 0 }
 {
-    let shape = lay(alloc, work.target(), work.objects())?;
-    let fixed = fixed_for(alloc, text, &shape, &work)?;
-    let (version, target, objects, scripts) = work.into_parts();
-    let ran = run_whole(rt, alloc, shape, scripts, kept_for(text), gate)?;
-    Ok(Ran {
+    let Prepared {
+        ready,
+        version,
+        target,
+        objects,
+        fixed,
+    } = prepared;
+    let ran = ready.run(rt, gate);
+    Ran {
         ended: Ended {
             arena: ran.arena,
             root: ran.root,
@@ -103,7 +67,7 @@ fn run_scripts<R: Threads + Wait + Sync, G: Gate>(
         fixed,
         replies: ran.replies,
         last: ran.last,
-    })
+    }
 }
 
 /// Writes the report of a run, with these fixed values.
@@ -112,7 +76,7 @@ fn write_report<K: Sink>(ran: &Ran, fixed: &Fixed, sink: &mut K) -> Result<(), W
     requires fixed { fixed.now ≡ fixed_of ran.now.ended.work }
     requires replies { map items_of ran.now.replies.items ≡ replies_from ran.now.ended.root.seen 1 (threads_of ran.now.ended.work) }
     requires last { ran.now.last.items ≡ replies_by ran.now.ended.root.seen 0 }
-    ensures { Writes K.taken K.faults K.whole sink.old sink.new result (report_lines ran.now.ended.work ran.now.ended.root.seen) }
+    ensures { Writes K.taken K.faults K.tries K.whole sink.old sink.new result (report_lines ran.now.ended.work ran.now.ended.root.seen) }
 {
     let work = &ran.ended.work;
     // Only for its clause, on what the type of a workload keeps.
@@ -130,7 +94,7 @@ fn write_many<K: Sink>(
 ) -> Result<(), WriteEnd>
     requires run { IsRunOf ran.now.ended.work ran.now.ended }
     requires last { ran.now.last.items ≡ replies_by ran.now.ended.root.seen 0 }
-    ensures { Writes K.taken K.faults K.whole sink.old sink.new result (run_lines (texts.Many seed threads calls) ran.now.ended.work ran.now.ended.root.seen) }
+    ensures { Writes K.taken K.faults K.tries K.whole sink.old sink.new result (run_lines (texts.Many seed threads calls) ran.now.ended.work ran.now.ended.root.seen) }
 {
     let work = &ran.ended.work;
     // Only for its clause, on what the type of a workload keeps.
@@ -144,7 +108,7 @@ fn write_run<K: Sink>(text: RunText, ran: &Ran, sink: &mut K) -> Result<(), Writ
     requires fixed { text ≡ texts.Report → ran.now.fixed ≡ Some (fixed_of ran.now.ended.work) }
     requires replies { text ≡ texts.Report → map items_of ran.now.replies.items ≡ replies_from ran.now.ended.root.seen 1 (threads_of ran.now.ended.work) }
     requires last { ran.now.last.items ≡ replies_by ran.now.ended.root.seen 0 }
-    ensures { Writes K.taken K.faults K.whole sink.old sink.new result (run_lines text ran.now.ended.work ran.now.ended.root.seen) }
+    ensures { Writes K.taken K.faults K.tries K.whole sink.old sink.new result (run_lines text ran.now.ended.work ran.now.ended.root.seen) }
 {
     match text {
         RunText::Report => match &ran.fixed {
@@ -159,7 +123,35 @@ fn write_run<K: Sink>(text: RunText, ran: &Ran, sink: &mut K) -> Result<(), Writ
     }
 }
 
-/// Runs a workload, a thread for each script, and writes what is to be told of the one history of its arena.
+/// Runs a workload that is ready, and writes what is to be told of the one history of its arena. It never ends out of
+/// memory.
+fn run_and_tell<R: Threads + Wait + Sync, K: Sink, G: Gate>(
+    rt: &R,
+    prepared: Prepared,
+    text: RunText,
+    sink: &mut K,
+    gate: &G,
+) -> Outcome
+    requires { IsPrepared text prepared }
+    ensures ran { RunsWork K.taken K.faults K.tries K.whole sink.old sink.new text (work_in prepared) result.status result.ended }
+    ensures memory { result.status ≢ Status.NoMemory }
+    ensures kept { K.whole sink.new ≡ K.whole sink.old }
+{
+    let ran = run_prepared(rt, prepared, text, gate);
+    match write_run(text, &ran, sink) {
+        Ok(()) => Outcome {
+            status: Status::Done,
+            ended: Some(ran.ended),
+        },
+        Err(WriteEnd::Fault) => Outcome {
+            status: Status::WriteFault,
+            ended: Some(ran.ended),
+        },
+    }
+}
+
+/// Runs a workload, a thread for each script, and writes what is to be told of the one history of its arena. Memory is
+/// taken before the first call of a script, or never.
 pub(crate) fn run_work<R: Threads + Wait + Sync, K: Sink, G: Gate>(
     rt: &R,
     alloc: Global,
@@ -168,22 +160,14 @@ pub(crate) fn run_work<R: Threads + Wait + Sync, K: Sink, G: Gate>(
     sink: &mut K,
     gate: &G,
 ) -> Outcome
-    ensures { RunsWork K.taken K.faults K.whole sink.old sink.new text work result.status result.ended }
+    ensures ran { RunsWork K.taken K.faults K.tries K.whole sink.old sink.new text work result.status result.ended }
+    ensures kept { K.whole sink.new ≡ K.whole sink.old }
 {
-    match run_scripts(rt, alloc, work, text, gate) {
+    match prepare(alloc, work, text) {
+        Ok(prepared) => run_and_tell(rt, prepared, text, sink, gate),
         Err(NoMemory) => Outcome {
             status: Status::NoMemory,
             ended: None,
-        },
-        Ok(ran) => match write_run(text, &ran, sink) {
-            Ok(()) => Outcome {
-                status: Status::Done,
-                ended: Some(ran.ended),
-            },
-            Err(WriteEnd::Fault) => Outcome {
-                status: Status::WriteFault,
-                ended: Some(ran.ended),
-            },
         },
     }
 }
@@ -199,7 +183,8 @@ pub(crate) fn run_many<R: Threads + Wait + Sync, K: Sink, G: Gate>(
     gate: &G,
 ) -> Outcome
     requires { many_fits threads calls ≡ true }
-    ensures { RunsWork K.taken K.faults K.whole sink.old sink.new (texts.Many seed threads calls) (many_of seed threads calls) result.status result.ended }
+    ensures ran { RunsWork K.taken K.faults K.tries K.whole sink.old sink.new (texts.Many seed threads calls) (many_of seed threads calls) result.status result.ended }
+    ensures kept { K.whole sink.new ≡ K.whole sink.old }
 {
     let text = RunText::Many {
         seed,

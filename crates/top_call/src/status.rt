@@ -1,7 +1,7 @@
 //! How the program ends.
 
 ghost use Rattle.std.specs.Prelude.{◌≡◌};
-ghost use Rattle.top_call.specs.Codes.{code_of};
+ghost use Rattle.top_call.specs.Codes.{code_of, usage_is_due, closed_as};
 
 /// The status that a call of the program ends with.
 #[derive(Clone, Copy, Debug, PartialEq, Eq)]
@@ -33,5 +33,18 @@ impl Status {
             Status::WriteFault => 4,
             Status::NoMemory => 5,
         }
+    }
+    /// Whether the usage line is to be written: where the words are no form.
+    pub fn is_usage(self) -> bool
+        ensures { result ≡ usage_is_due self }
+    {
+        self == Status::Usage
+    }
+
+    /// The status of a call after which its sink was closed. Where the sink couldn't hand on what it held, it failed.
+    pub fn closed(self, handed_on: bool) -> Status
+        ensures { result ≡ closed_as handed_on self }
+    {
+        if handed_on { self } else { Status::WriteFault }
     }
 }

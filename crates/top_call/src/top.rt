@@ -1,7 +1,8 @@
 //! The top call.
 
 ghost use Rattle.std.specs.Prelude.{◌≡◌, true, Some, None};
-ghost use Rattle.work_lang.specs.Streams.{LosesFront};
+ghost use Rattle.work_lang.specs.Counts.{ReadsNoFurther};
+ghost use Rattle.work_lang.specs.Streams.{most_read, LosesFront};
 ghost use Rattle.top_call.specs.Outside.{outside};
 ghost use Rattle.top_call.specs.Commands.{command_of, described_by, described, reads, IsAsked, IsTargetAsked};
 ghost use Rattle.top_call.specs.Status.{status_of, SaysOf, Says, CountsStay, WhereNotWritten, WhereNotRead, Completes};
@@ -40,9 +41,11 @@ fn describe_input<S: Source, K: Sink>(
     requires describes { described_by command ≡ Some command }
     requires reads { reads command ≡ true }
     requires asked { IsAsked command }
-    ensures says { SaysOf command (outside S.left S.faults K.taken K.faults K.whole source.old sink.old) (outside S.left S.faults K.taken K.faults K.whole source.new sink.new) result None }
-    ensures counts { CountsStay result (outside S.left S.faults K.taken K.faults K.whole source.old sink.old) (outside S.left S.faults K.taken K.faults K.whole source.new sink.new) }
+    ensures says { SaysOf command (outside S.left S.faults S.meter K.taken K.faults K.tries K.whole source.old sink.old) (outside S.left S.faults S.meter K.taken K.faults K.tries K.whole source.new sink.new) result None }
+    ensures counts { CountsStay result (outside S.left S.faults S.meter K.taken K.faults K.tries K.whole source.old sink.old) (outside S.left S.faults S.meter K.taken K.faults K.tries K.whole source.new sink.new) }
     ensures front { LosesFront S.left source.old source.new }
+    ensures further { ReadsNoFurther most_read (S.meter source.old) (S.meter source.new) }
+    ensures kept { K.whole sink.new ≡ K.whole sink.old }
     ensures sink { WhereNotWritten result (sink.new ≡ sink.old) }
 {
     match read_input(alloc, source) {
@@ -59,9 +62,11 @@ fn describe_command<S: Source, K: Sink>(
     sink: &mut K,
 ) -> Status
     requires asked { IsAsked command }
-    ensures says { Says (described_by command) (outside S.left S.faults K.taken K.faults K.whole source.old sink.old) (outside S.left S.faults K.taken K.faults K.whole source.new sink.new) result None }
-    ensures counts { CountsStay result (outside S.left S.faults K.taken K.faults K.whole source.old sink.old) (outside S.left S.faults K.taken K.faults K.whole source.new sink.new) }
+    ensures says { Says (described_by command) (outside S.left S.faults S.meter K.taken K.faults K.tries K.whole source.old sink.old) (outside S.left S.faults S.meter K.taken K.faults K.tries K.whole source.new sink.new) result None }
+    ensures counts { CountsStay result (outside S.left S.faults S.meter K.taken K.faults K.tries K.whole source.old sink.old) (outside S.left S.faults S.meter K.taken K.faults K.tries K.whole source.new sink.new) }
     ensures front { LosesFront S.left source.old source.new }
+    ensures further { ReadsNoFurther most_read (S.meter source.old) (S.meter source.new) }
+    ensures kept { K.whole sink.new ≡ K.whole sink.old }
     ensures source { WhereNotRead (described_by command) (source.new ≡ source.old) }
     ensures sink { WhereNotWritten result (sink.new ≡ sink.old) }
 {
@@ -84,9 +89,11 @@ fn run_input<R: Threads + Wait + Sync, S: Source, K: Sink, G: Gate>(
     gate: &G,
 ) -> Outcome
     requires target { IsTargetAsked target }
-    ensures says { SaysOf (Command.Run target) (outside S.left S.faults K.taken K.faults K.whole source.old sink.old) (outside S.left S.faults K.taken K.faults K.whole source.new sink.new) result.status result.ended }
-    ensures counts { CountsStay result.status (outside S.left S.faults K.taken K.faults K.whole source.old sink.old) (outside S.left S.faults K.taken K.faults K.whole source.new sink.new) }
+    ensures says { SaysOf (Command.Run target) (outside S.left S.faults S.meter K.taken K.faults K.tries K.whole source.old sink.old) (outside S.left S.faults S.meter K.taken K.faults K.tries K.whole source.new sink.new) result.status result.ended }
+    ensures counts { CountsStay result.status (outside S.left S.faults S.meter K.taken K.faults K.tries K.whole source.old sink.old) (outside S.left S.faults S.meter K.taken K.faults K.tries K.whole source.new sink.new) }
     ensures front { LosesFront S.left source.old source.new }
+    ensures further { ReadsNoFurther most_read (S.meter source.old) (S.meter source.new) }
+    ensures kept { K.whole sink.new ≡ K.whole sink.old }
     ensures sink { WhereNotWritten result.status (sink.new ≡ sink.old) }
 {
     match read_input(alloc, source) {
@@ -116,10 +123,12 @@ pub fn describe<S: Source, K: Sink>(
     source: &mut S,
     sink: &mut K,
 ) -> Status
-    ensures says { Says (described (command_of words.now)) (outside S.left S.faults K.taken K.faults K.whole source.old sink.old) (outside S.left S.faults K.taken K.faults K.whole source.new sink.new) result None }
-    ensures complete { Completes (described (command_of words.now)) (outside S.left S.faults K.taken K.faults K.whole source.old sink.old) (outside S.left S.faults K.taken K.faults K.whole source.new sink.new) result }
-    ensures counts { CountsStay result (outside S.left S.faults K.taken K.faults K.whole source.old sink.old) (outside S.left S.faults K.taken K.faults K.whole source.new sink.new) }
+    ensures says { Says (described (command_of words.now)) (outside S.left S.faults S.meter K.taken K.faults K.tries K.whole source.old sink.old) (outside S.left S.faults S.meter K.taken K.faults K.tries K.whole source.new sink.new) result None }
+    ensures complete { Completes (described (command_of words.now)) (outside S.left S.faults S.meter K.taken K.faults K.tries K.whole source.old sink.old) (outside S.left S.faults S.meter K.taken K.faults K.tries K.whole source.new sink.new) result }
+    ensures counts { CountsStay result (outside S.left S.faults S.meter K.taken K.faults K.tries K.whole source.old sink.old) (outside S.left S.faults S.meter K.taken K.faults K.tries K.whole source.new sink.new) }
     ensures front { LosesFront S.left source.old source.new }
+    ensures further { ReadsNoFurther most_read (S.meter source.old) (S.meter source.new) }
+    ensures kept { K.whole sink.new ≡ K.whole sink.old }
     ensures source { WhereNotRead (described (command_of words.now)) (source.new ≡ source.old) }
     ensures sink { WhereNotWritten result (sink.new ≡ sink.old) }
 {
@@ -144,14 +153,16 @@ pub fn portable_call<R: Threads + Wait + Sync, S: Source, K: Sink, G: Gate>(
 ) -> Outcome
     // What each status says. At Done of `run` the sink gained the report of the one history of the arena that is handed
     // out, and that history is a run of the workload that was read.
-    ensures says { Says (command_of words.now) (outside S.left S.faults K.taken K.faults K.whole source.old sink.old) (outside S.left S.faults K.taken K.faults K.whole source.new sink.new) result.status result.ended }
+    ensures says { Says (command_of words.now) (outside S.left S.faults S.meter K.taken K.faults K.tries K.whole source.old sink.old) (outside S.left S.faults S.meter K.taken K.faults K.tries K.whole source.new sink.new) result.status result.ended }
     // Where nothing outside fails, it finishes.
-    ensures complete { Completes (command_of words.now) (outside S.left S.faults K.taken K.faults K.whole source.old sink.old) (outside S.left S.faults K.taken K.faults K.whole source.new sink.new) result.status }
+    ensures complete { Completes (command_of words.now) (outside S.left S.faults S.meter K.taken K.faults K.tries K.whole source.old sink.old) (outside S.left S.faults S.meter K.taken K.faults K.tries K.whole source.new sink.new) result.status }
 
     // A fault of the source or the sink is told as that.
-    ensures counts { CountsStay result.status (outside S.left S.faults K.taken K.faults K.whole source.old sink.old) (outside S.left S.faults K.taken K.faults K.whole source.new sink.new) }
+    ensures counts { CountsStay result.status (outside S.left S.faults S.meter K.taken K.faults K.tries K.whole source.old sink.old) (outside S.left S.faults S.meter K.taken K.faults K.tries K.whole source.new sink.new) }
     // How far it reads, and what it leaves untouched.
     ensures front { LosesFront S.left source.old source.new }
+    ensures further { ReadsNoFurther most_read (S.meter source.old) (S.meter source.new) }
+    ensures kept { K.whole sink.new ≡ K.whole sink.old }
     ensures source { WhereNotRead (command_of words.now) (source.new ≡ source.old) }
     ensures sink { WhereNotWritten result.status (sink.new ≡ sink.old) }
 {

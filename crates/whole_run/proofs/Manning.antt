@@ -7,6 +7,7 @@ use Rattle.place_core.specs.declared.entry.Entry.{Entry}
 use Rattle.place_core.specs.declared.shape.Shape.{Shape}
 use Rattle.place_core.specs.declared.script.Piece.{Piece}
 use Rattle.place_core.specs.Pieces.{script_lines}
+use Rattle.place_core.specs.RepliesState.{RepliesState}
 use Rattle.place_core.specs.Runs.{asked_by, ScriptFits, ScriptsFit}
 use Rattle.place_core.specs.Shapes.{cells_of_shape}
 use Rattle.seat_views.specs.States.{ArenaState, PassState, IsOf, IsKept}
@@ -15,7 +16,7 @@ use Rattle.runner.specs.declared.worker.Keep.{Keep}
 use Rattle.runner.specs.declared.worker.Keep.TheVariants.{Replies, Nothing}
 use Rattle.runner.specs.declared.worker.Worker.{Worker}
 use Rattle.runner.specs.Scripts.{IsSet, IsReadyTo, AreReadyTo, HasRun, HasRunTo, HaveRunTo}
-use Rattle.whole_run.specs.Stages.{root_of, pass_of, told_by, IsManned, AreManned, HasManned, IsDone, AreDone, HaveKept}
+use Rattle.whole_run.specs.Stages.{root_of, pass_of, told_by, IsManned, AreManned, HasManned, IsDone, AreDone, HaveKept, HaveNone}
 use Rattle.whole_run.proofs.Threads.{replies_with}
 
 -- ---- passes given
@@ -99,6 +100,19 @@ AreManned-kept a i (v ∷ vs) (w ∷ ws) all ran = let head = IsManned-kept a i 
 pub manned_kept : (keep : Keep) (a : ArenaState) (vs ws : List Worker) → keep ≡ Replies → AreManned keep a 1 vs → HaveRunTo keep a.shape vs ws → HaveKept ws
 manned_kept keep a vs ws same all ran =
     AreManned-kept a 1 vs ws (subst (λ (k : Keep). AreManned k a 1 vs) same all) (subst (λ (k : Keep). HaveRunTo k a.shape vs ws) same ran)
+
+-- and has none, where nothing is kept
+AreManned-none : (a : ArenaState) (i : ℕ) (vs ws : List Worker) → AreManned Nothing a i vs → HaveRunTo Nothing a.shape vs ws → HaveNone ws
+AreManned-none a i [] [] all ran = refl
+AreManned-none a i [] (w ∷ ws) all ran = absurd ran
+AreManned-none a i (v ∷ vs) [] all ran = absurd ran
+AreManned-none a i (v ∷ vs) (w ∷ ws) all ran =
+    let head : w.replies.items ≡ [] = ap (λ (k : RepliesState). k.items) ran.0.replies ∙ all.0.empty in
+    let rest = AreManned-none a (i + 1) vs ws all.1 ran.1 in cc (head, rest)
+
+pub manned_none : (keep : Keep) (a : ArenaState) (vs ws : List Worker) → keep ≡ Nothing → AreManned keep a 1 vs → HaveRunTo keep a.shape vs ws → HaveNone ws
+manned_none keep a vs ws same all ran =
+    AreManned-none a 1 vs ws (subst (λ (k : Keep). AreManned k a 1 vs) same all) (subst (λ (k : Keep). HaveRunTo k a.shape vs ws) same ran)
 
 -- the scripts stay
 HasRun-script : (keep : Keep) (S : Shape) (v w : Worker) → HasRunTo keep S v w → w.script ≡ v.script

@@ -10,11 +10,11 @@ use Rattle.place_core.specs.Shapes.{cells_of_shape}
 use Rattle.seat_views.specs.States.{ArenaState, PassState, Opens}
 use Rattle.seat_views.specs.Makes.{MakesCalls}
 use Rattle.runner.specs.declared.worker.Worker.{Worker}
-use Rattle.whole_run.specs.Stages.{told_by, HasBack, HaveKept}
-use Rattle.whole_run.specs.WholeRuns.{RanWhole}
+use Rattle.whole_run.specs.Stages.{told_by, HasBack, HaveKept, HaveNone}
+use Rattle.whole_run.specs.WholeRuns.{RanWhole, no_replies}
 use Rattle.whole_run.proofs.RunFacts.{ran_whole, thread_replies, last_replies}
 
-count_of : (given : List (List Piece)) (ws : List Worker) → map (λ (w : Worker). w.script) ws ≡ given → length ws ≡ length given
+pub count_of : (given : List (List Piece)) (ws : List Worker) → map (λ (w : Worker). w.script) ws ≡ given → length ws ≡ length given
 count_of given ws named = sym (length-map ws (λ (w : Worker). w.script)) ∙ ap length named
 
 module _ (S : Shape) (a : ArenaState) (first : PassState) (given : List (List Piece)) (ws : List Worker) (scripts : List (List Piece)) (p q : PassState) (loaded : RepliesState)
@@ -40,6 +40,9 @@ module _ (S : Shape) (a : ArenaState) (first : PassState) (given : List (List Pi
 
   pub replies_of : (replies : List RepliesState) → replies ≡ map (λ (w : Worker). w.replies) ws → HaveKept ws → map (λ (k : RepliesState). k.items) replies ≡ replies_from q.seen 1 (map script_lines given)
   replies_of replies are kept = ap (map (λ (k : RepliesState). k.items)) are ∙ (kept ∙ told_of)
+
+  pub nothing_of : (replies : List RepliesState) → replies ≡ map (λ (w : Worker). w.replies) ws → HaveNone ws → map (λ (k : RepliesState). k.items) replies ≡ no_replies given
+  nothing_of replies are none = ap (map (λ (k : RepliesState). k.items)) are ∙ (none ∙ ap no_replies named)
 
   pub last_of : loaded.items ≡ replies_by q.seen 0
   last_of = last_replies S a (map script_lines given) (map told_by ws) p q loaded.items opens.shape opens.first_stamp all_back all_loads

@@ -18,6 +18,7 @@ use Rattle.place_core.specs.Pieces.{script_lines}
 use Rattle.runner.specs.declared.worker.Keep.{Keep}
 use Rattle.runner.specs.declared.worker.Keep.TheVariants.{Replies}
 use Rattle.runner.specs.declared.worker.Worker.{Worker}
+use Rattle.whole_run.specs.WholeRuns.{no_replies}
 use Rattle.whole_run.specs.declared.taken.Taken.{Taken}
 
 -- ---- passes given
@@ -65,6 +66,10 @@ AreDone a i (w ∷ ws) = IsDone a i w × AreDone a (i + 1) ws
 -- each worker has kept the replies to its calls
 abbrev pub HaveKept : List Worker → Type 0
 HaveKept ws = map (λ (k : RepliesState). k.items) (map (λ (w : Worker). w.replies) ws) ≡ map told_by ws
+
+-- no worker has replies
+abbrev pub HaveNone : List Worker → Type 0
+HaveNone ws = map (λ (k : RepliesState). k.items) (map (λ (w : Worker). w.replies) ws) ≡ no_replies (map (λ (w : Worker). w.script) ws)
 
 -- ---- passes taken back
 

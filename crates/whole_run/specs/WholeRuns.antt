@@ -1,5 +1,6 @@
 -- What is said of an arena and its root after a run of scripts.
-use Rattle.std.specs.Prelude.{◌≡◌, ℕ, ◌+◌, ◌*◌, List, [], ◌∷◌, length}
+use Rattle.std.specs.Prelude.{◌≡◌, ℕ, ◌+◌, ◌*◌, List, [], ◌∷◌, length, map}
+use Rattle.op_table.specs.declared.call.Reply.{Reply}
 use Rattle.place_core.specs.declared.entry.Entry.{Entry}
 use Rattle.place_core.specs.declared.script.Line.{Line}
 use Rattle.place_core.specs.declared.shape.Shape.{Shape}
@@ -26,6 +27,10 @@ EndedAs S H i [] [] = Unit {0}
 EndedAs S H i [] (d ∷ ds) = ⊥
 EndedAs S H i (script ∷ scripts) [] = ⊥
 EndedAs S H i (script ∷ scripts) (d ∷ ds) = HasEnded S H i script d × EndedAs S H (i + 1) scripts ds
+
+-- of each of these scripts no replies
+abbrev pub no_replies : {A : Type 0} → List A → List (List Reply)
+no_replies scripts = map (λ script. []) scripts
 
 -- the root of an arena of the shape S, whose locks began at 0: what it has seen is a run of the scripts, it gave as many
 -- numbers as there are scripts, their passes ended in order, and its own steps are the paths of the last loads; aside it

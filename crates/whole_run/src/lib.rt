@@ -11,4 +11,4 @@ mod tests;
 mod trials;
 mod whole;
 
-pub use whole::{WholeRun, run_whole};
+pub use whole::{ReadyRun, WholeRun, run_whole};

@@ -6,7 +6,7 @@ ghost use Rattle.place_core.specs.Runs.{ScriptsFit};
 ghost use Rattle.place_core.specs.Shapes.{cells_of_shape};
 ghost use Rattle.runner.specs.declared.worker.Keep.TheVariants as keeps;
 ghost use Rattle.runner.specs.declared.worker.Worker.{Worker};
-ghost use Rattle.whole_run.specs.Stages.{AreManned, AreDone, HaveKept};
+ghost use Rattle.whole_run.specs.Stages.{AreManned, AreDone, HaveKept, HaveNone};
 ghost use Rattle.seat_views.specs.Limits.{most_passes};
 
 use place_core::Gate;
@@ -28,6 +28,7 @@ pub(crate) fn run_manned<R: Threads + Wait + Sync, G: Gate>(
     requires few { length workers.items ≤ most_passes }
     ensures done { AreDone arena.now 1 result.items }
     ensures kept { keep ≡ keeps.Replies → HaveKept result.items }
+    ensures none { keep ≡ keeps.Nothing → HaveNone result.items }
     ensures scripts { map (λ (w : Worker). w.script) result.items ≡ map (λ (w : Worker). w.script) workers.items }
     ensures count { length result.items ≡ length workers.items }
 {

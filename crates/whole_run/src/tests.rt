@@ -108,3 +108,16 @@ fn no_objects_have_no_last_load(rt: HostRuntime) -> Result<(), Fail> {
     assert_eq!(rt; run.replies.len(), 2);
     Ok(())
 }
+
+/// The most objects that an arena may have, a word each.
+#[test]
+fn the_most_objects_are_loaded(rt: HostRuntime) -> Result<(), Fail> {
+    let mut objects = Vec::new(rt.alloc());
+    for _ in 0..65_536 {
+        objects.push(counter(9).ok_or("an object")?)?;
+    }
+    let run = run_none(&rt, rt.alloc(), &objects).ok_or("it runs")?;
+    assert_eq!(rt; run.last.len(), 65_536);
+    assert_eq!(rt; value_at(&run.last, 65_535), 9);
+    Ok(())
+}

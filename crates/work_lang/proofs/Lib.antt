@@ -14,6 +14,8 @@ pub mod Names
 pub mod OperandForms
 pub mod OperandTexts
 pub mod OrderTexts
+mod Meters
+mod Tries
 pub mod Pieces
 pub mod Counters
 pub mod CanonicalSteps
@@ -32,3 +34,4 @@ pub mod LongestRuns
 pub mod SecondForms
 pub mod Cuts
 pub mod FaultLines
+pub mod TextFacts

@@ -9,11 +9,11 @@ last_count = 2 ^ 64 - 1
 abbrev pub next_count : ℕ → ℕ
 next_count n = min (n + 1) last_count
 
--- a count rose: it is greater than before, or it is at its last value
+-- a count rose: it is one more than before, or it stands still at its last value
 abbrev pub Rose : ℕ → ℕ → Type 0
-Rose before now = next_count before ≤ now
+Rose before now = now ≡ next_count before
 
--- the count never falls: an error comes only where it rose, and without one it is as before
+-- the count never falls: it is one more after an error, and as before without one
 pub record HasCause {T E : Type 0} (before now : ℕ) (result : Result T E) : Type 0 where
   pub later : before ≤ now
   pub failed : OnErr result (Rose before now)

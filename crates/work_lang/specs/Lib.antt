@@ -1,4 +1,5 @@
 pub mod Faults
+pub mod Counts
 pub mod Streams
 pub mod Memory
 pub mod Limits
@@ -19,3 +20,4 @@ pub mod SecondLaws
 pub mod Cutting
 pub mod Laws
 pub mod CutLaws
+pub mod Vectors

@@ -2,14 +2,18 @@
 use Rattle.std.specs.Prelude.{ℕ, ◌-◌, min, Bool, ◌||◌, nat_lt, nat_le, List, ◌++◌, length, take, drop, ◌==◌, if◌then◌else◌}
 use Rattle.std.specs.List.{list_any}
 use Rattle.work_lang.specs.Faults.{next_count}
+use Rattle.work_lang.specs.Counts.{after_stop, after_bytes}
+use Rattle.work_lang.specs.declared.meter.Meter.{Meter}
 
--- a source: the bytes left, how many a read gives at most, the numbers of the reads that fail, and how many were made and failed
+-- a source: the bytes left, how many a read gives at most, the numbers of the reads that fail, how many were made and
+-- failed, and how far it was read
 pub record Tape : Type 0 where
   pub left : List ℕ
   pub most : ℕ
   pub fails : List ℕ
   pub reads : ℕ
   pub faults : ℕ
+  pub meter : Meter
 
 abbrev pub is_listed : ℕ → List ℕ → Bool
 is_listed n ns = list_any (λ m. m == n) ns
@@ -24,8 +28,18 @@ given tape room = min (min tape.most room) (length tape.left)
 
 -- the source after a read into this much room
 abbrev pub after_read : Tape → ℕ → Tape
-after_read tape room = if read_fails tape then record tape { reads = next_count tape.reads; faults = next_count tape.faults }
-    else record tape { left = drop (given tape room) tape.left; reads = next_count tape.reads }
+after_read tape room = if read_fails tape then record tape { reads = next_count tape.reads; faults = next_count tape.faults; meter = after_stop tape.meter }
+    else record tape { left = drop (given tape room) tape.left; reads = next_count tape.reads; meter = after_bytes tape.meter (given tape room) room }
+
+-- a source that lends its bytes: those left, and how far it was read
+pub record Lent : Type 0 where
+  pub left : List ℕ
+  pub meter : Meter
+
+-- a sink that keeps no bytes: how many it took, and how often it was asked
+pub record Tally : Type 0 where
+  pub taken : ℕ
+  pub writes : ℕ
 
 -- a sink: the bytes taken, how much room is left, how many a write takes at most, the numbers of the writes that fail, and how many were made and failed
 pub record Page : Type 0 where

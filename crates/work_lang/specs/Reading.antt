@@ -1,6 +1,6 @@
 -- Reading a workload line by line, up to the first fault: the table of places of faults.
 -- In each definition the causes stand in the order in which they are looked at.
-use Rattle.std.specs.Prelude.{ℕ, ◌≡◌, ◌+◌, Bool, false, not, ◌&&◌, ◌||◌, ◌==◌, List, [], ◌∷◌, ◌++◌, length, nat_le, nat_lt, slice_index, slice_get, Option, Some, None, Result, Ok, Err, codes, if◌then◌else◌}
+use Rattle.std.specs.Prelude.{ℕ, ◌≡◌, ◌+◌, Bool, true, false, not, ◌&&◌, ◌||◌, ◌==◌, List, [], ◌∷◌, ◌++◌, length, nat_le, nat_lt, slice_index, slice_get, Option, Some, None, Result, Ok, Err, codes, if◌then◌else◌}
 use Rattle.std.specs.List.{list_all, sum_by}
 use Rattle.std.specs.Str.{bytes_eq}
 use Rattle.std.specs.Option.{is_some}
@@ -332,6 +332,22 @@ unfoldable pub after_line : State → List ℕ → Result State Slip
 after_line s line = do
   said ← content_at s line
   Ok (next_if s said)
+
+-- an item that is kept where memory is taken for it: an object, a call, or a thread or a block that ends
+abbrev pub takes_memory : Item → Bool
+takes_memory (items.Version version) = false
+takes_memory (items.Target t) = false
+takes_memory (items.Object d) = true
+takes_memory items.Thread = false
+takes_memory (items.Repeat times) = false
+takes_memory (items.Call l) = true
+takes_memory items.End = true
+
+-- a line without a fault says such an item
+abbrev pub NeedsMemory : Result (Option Item) Slip → Type 0
+NeedsMemory (Ok None) = ⊥
+NeedsMemory (Ok (Some item)) = takes_memory item ≡ true
+NeedsMemory (Err s) = ⊥
 
 -- what a step over a line returned and left is what reading gives, unless memory was wanting
 abbrev pub Moves : Result (Unit {0}) LineFault → State → Result State Slip → Type 0

@@ -20,7 +20,7 @@ use target_desc::{Target, push_target};
 
 /// Writes the line of a version.
 fn write_version<K: Sink>(version: u32, sink: &mut K) -> Result<(), WriteEnd>
-    ensures { Writes K.taken K.faults K.whole sink.old sink.new result (version_line version ∷ []) }
+    ensures { Writes K.taken K.faults K.tries K.whole sink.old sink.new result (version_line version ∷ []) }
 {
     if version == 1 {
         write_line(b"work 1\n", sink)
@@ -33,7 +33,7 @@ fn write_version<K: Sink>(version: u32, sink: &mut K) -> Result<(), WriteEnd>
 #[tactic(auto, unfolding(crate::specs::Canonical::target_line))]
 pub fn write_target<K: Sink>(target: &Target, sink: &mut K) -> Result<(), WriteEnd>
     requires { IsTarget target.now }
-    ensures { Writes K.taken K.faults K.whole sink.old sink.new result (target_line target.now ∷ []) }
+    ensures { Writes K.taken K.faults K.tries K.whole sink.old sink.new result (target_line target.now ∷ []) }
 {
     let mut out = LineBuf::new();
     out.push_text(b"target ");
@@ -46,7 +46,7 @@ pub fn write_target<K: Sink>(target: &Target, sink: &mut K) -> Result<(), WriteE
 #[tactic(auto, unfolding(crate::specs::Canonical::object_line))]
 fn write_object<K: Sink>(object: &Declared, sink: &mut K) -> Result<(), WriteEnd>
     requires { IsDeclared object.now }
-    ensures { Writes K.taken K.faults K.whole sink.old sink.new result (object_line object.now ∷ []) }
+    ensures { Writes K.taken K.faults K.tries K.whole sink.old sink.new result (object_line object.now ∷ []) }
 {
     let mut out = LineBuf::new();
     let name = object.name;
@@ -63,7 +63,7 @@ fn write_object<K: Sink>(object: &Declared, sink: &mut K) -> Result<(), WriteEnd
 /// Writes the lines of the objects.
 fn write_objects<K: Sink>(objects: &[Declared], sink: &mut K) -> Result<(), WriteEnd>
     requires { AllByRecursion IsDeclared objects.now }
-    ensures { Writes K.taken K.faults K.whole sink.old sink.new result (map object_line objects.now) }
+    ensures { Writes K.taken K.faults K.tries K.whole sink.old sink.new result (map object_line objects.now) }
 {
     let mut i = 0;
     'objects: while i < objects.len() {
@@ -79,7 +79,7 @@ fn write_objects<K: Sink>(objects: &[Declared], sink: &mut K) -> Result<(), Writ
 /// Writes the line of a call.
 fn write_call<K: Sink>(objects: &[Declared], line: &Line, sink: &mut K) -> Result<(), WriteEnd>
     requires { IsSomeAnd (slice_get objects.now line.now.object) (λ d. IsKind d.kind × HasLine line.now d) }
-    ensures { Writes K.taken K.faults K.whole sink.old sink.new result (ended_call_line objects.now line.now ∷ []) }
+    ensures { Writes K.taken K.faults K.tries K.whole sink.old sink.new result (ended_call_line objects.now line.now ∷ []) }
 {
     let mut out = LineBuf::new();
     push_call(&mut out, objects, line);
@@ -90,7 +90,7 @@ fn write_call<K: Sink>(objects: &[Declared], line: &Line, sink: &mut K) -> Resul
 /// Writes the line that opens a block.
 #[tactic(auto, unfolding(crate::specs::Canonical::repeat_line))]
 fn write_repeat<K: Sink>(times: u32, sink: &mut K) -> Result<(), WriteEnd>
-    ensures { Writes K.taken K.faults K.whole sink.old sink.new result (repeat_line times ∷ []) }
+    ensures { Writes K.taken K.faults K.tries K.whole sink.old sink.new result (repeat_line times ∷ []) }
 {
     let mut out = LineBuf::new();
     out.push_text(b"repeat: ");
@@ -103,7 +103,7 @@ fn write_repeat<K: Sink>(times: u32, sink: &mut K) -> Result<(), WriteEnd>
 fn write_calls<K: Sink>(objects: &[Declared], lines: &[Line], sink: &mut K) -> Result<(), WriteEnd>
     requires sound { AllByRecursion IsDeclared objects.now }
     requires fits { AllByRecursion (LineFits objects.now) lines.now }
-    ensures { Writes K.taken K.faults K.whole sink.old sink.new result (map (ended_call_line objects.now) lines.now) }
+    ensures { Writes K.taken K.faults K.tries K.whole sink.old sink.new result (map (ended_call_line objects.now) lines.now) }
 {
     let mut lines = lines;
     'calls: while let [line, next_lines @ ..] = lines {
@@ -125,7 +125,7 @@ fn write_block<K: Sink>(
 ) -> Result<(), WriteEnd>
     requires sound { AllByRecursion IsDeclared objects.now }
     requires fits { AllByRecursion (LineFits objects.now) lines.now }
-    ensures { Writes K.taken K.faults K.whole sink.old sink.new result (block_texts objects.now times lines.now) }
+    ensures { Writes K.taken K.faults K.tries K.whole sink.old sink.new result (block_texts objects.now times lines.now) }
 {
     match write_repeat(times, sink) {
         Ok(()) => {}
@@ -142,7 +142,7 @@ fn write_block<K: Sink>(
 fn write_piece<K: Sink>(objects: &[Declared], piece: &Piece, sink: &mut K) -> Result<(), WriteEnd>
     requires sound { AllByRecursion IsDeclared objects.now }
     requires stands { PieceStands 2 objects.now piece.now }
-    ensures { Writes K.taken K.faults K.whole sink.old sink.new result (piece_texts objects.now piece.now) }
+    ensures { Writes K.taken K.faults K.tries K.whole sink.old sink.new result (piece_texts objects.now piece.now) }
 {
     match piece {
         Piece::One(line) => write_call(objects, line, sink),
@@ -158,7 +158,7 @@ fn write_pieces<K: Sink>(
 ) -> Result<(), WriteEnd>
     requires sound { AllByRecursion IsDeclared objects.now }
     requires stands { AllByRecursion (PieceStands 2 objects.now) script.now }
-    ensures { Writes K.taken K.faults K.whole sink.old sink.new result (flat_map (piece_texts objects.now) script.now) }
+    ensures { Writes K.taken K.faults K.tries K.whole sink.old sink.new result (flat_map (piece_texts objects.now) script.now) }
 {
     let mut k = 0;
     'pieces: while k < script.pieces() {
@@ -179,7 +179,7 @@ fn write_thread<K: Sink>(
 ) -> Result<(), WriteEnd>
     requires sound { AllByRecursion IsDeclared objects.now }
     requires stands { AllByRecursion (PieceStands 2 objects.now) script.now }
-    ensures { Writes K.taken K.faults K.whole sink.old sink.new result (thread_lines objects.now script.now) }
+    ensures { Writes K.taken K.faults K.tries K.whole sink.old sink.new result (thread_lines objects.now script.now) }
 {
     match write_line(b"thread\n", sink) {
         Ok(()) => {}
@@ -200,7 +200,7 @@ fn write_threads<K: Sink>(
 ) -> Result<(), WriteEnd>
     requires sound { AllByRecursion IsDeclared objects.now }
     requires stand { AllByRecursion (AllByRecursion (PieceStands 2 objects.now)) threads.now }
-    ensures { Writes K.taken K.faults K.whole sink.old sink.new result (flat_map (thread_lines objects.now) threads.now) }
+    ensures { Writes K.taken K.faults K.tries K.whole sink.old sink.new result (flat_map (thread_lines objects.now) threads.now) }
 {
     let mut threads = threads;
     'threads: while let [script, next_threads @ ..] = threads {
@@ -218,7 +218,7 @@ fn write_threads<K: Sink>(
 /// written as they stand. Where that text has at most 8,388,608 bytes, `read_work` reads the workload back from it. It
 /// takes no memory. At Fault, which comes only where the sink's count rose, what was taken is a front of the text.
 pub fn print_work<K: Sink>(work: &Work, sink: &mut K) -> Result<(), WriteEnd>
-    ensures { Writes K.taken K.faults K.whole sink.old sink.new result (canonical_lines work.now) }
+    ensures { Writes K.taken K.faults K.tries K.whole sink.old sink.new result (canonical_lines work.now) }
 {
     let target = work.target();
     let objects = work.objects();

@@ -3,6 +3,7 @@
 ghost use Rattle.std.specs.Prelude.{◌≡◌, ◌≤◌, length, take};
 ghost use Rattle.work_lang.specs.Faults.{next_count};
 
+use crate::meter::Meter;
 use crate::stream::{Failed, Sink, Source};
 use op_table::NoMemory;
 use std::alloc::Global;
@@ -18,6 +19,7 @@ pub struct MemSource {
     fails: Vec<u64>,
     reads: u64,
     faults: u64,
+    meter: Meter,
 }
 
 impl Model for MemSource {
@@ -27,13 +29,14 @@ impl Model for MemSource {
 
     ghost Value = { Tape };
 
-    ghost view = { λ s. record { left = drop s.at s.bytes.items; most = s.most; fails = s.fails.items; reads = s.reads; faults = s.faults } };
+    ghost view = { λ s. record { left = drop s.at s.bytes.items; most = s.most; fails = s.fails.items; reads = s.reads; faults = s.faults; meter = s.meter } };
 
     ghost invariant = { λ s. (s.at ≤ vec_len s.bytes) × (0 < s.most) × (s.faults ≤ last_count) };
 }
 
 impl MemSource {
     ghost use Rattle.std.specs.Prelude.{◌≡◌, ◌<◌, IfOk};
+    ghost use Rattle.work_lang.specs.Counts.{new_meter};
     ghost use Rattle.work_lang.specs.Memory.{Tape};
 
     /// A source that has copied these bytes. A read gives at most `most` of them, and fails where its number, counted
@@ -45,7 +48,7 @@ impl MemSource {
         fails: &[u64],
     ) -> Result<MemSource, NoMemory>
         requires { 0 < most }
-        ensures { IfOk result (λ s. s ≡ record { left = bytes.now; most = most; fails = fails.now; reads = 0; faults = 0 }) }
+        ensures { IfOk result (λ s. s ≡ record { left = bytes.now; most = most; fails = fails.now; reads = 0; faults = 0; meter = new_meter }) }
     {
         match (Vec::from_slice(alloc, bytes), Vec::from_slice(alloc, fails)) {
             (Ok(bytes), Ok(fails)) => Ok(MemSource {
@@ -55,6 +58,7 @@ impl MemSource {
                 fails,
                 reads: 0,
                 faults: 0,
+                meter: Meter::new(),
             }),
             _ => Err(NoMemory),
         }
@@ -83,29 +87,35 @@ impl Source for MemSource {
     ghost use Rattle.std.specs.Io.{ReadsAtMost};
     ghost use Rattle.std.specs.Io.KnownBytes.{ReadConsumes};
     ghost use Rattle.work_lang.specs.Faults.{last_count, HasCause};
+    ghost use Rattle.work_lang.specs.Counts.{meter_after};
     ghost use Rattle.work_lang.specs.Memory.{given, read_fails, after_read};
 
     ghost left = { λ s. Some s.left };
 
     ghost faults = { λ s. s.faults };
 
+    ghost meter = { λ s. s.meter };
+
     fn read(&mut self, buffer: &mut [u8]) -> Result<usize, Failed>
         ensures bound { ReadsAtMost result buffer.new }
         ensures bytes { ReadConsumes (Some self.old.left) (Some self.new.left) result buffer.new }
         ensures cause { HasCause self.old.faults self.new.faults result }
         ensures counted { self.new.faults ≤ last_count }
+        ensures metered { self.new.meter ≡ meter_after self.old.meter result (length buffer.new) }
         ensures exact { is_err result ≡ read_fails self.old }
         ensures count { IfOk result (λ n. n ≡ given self.old (length buffer.new)) }
         ensures after { self.new ≡ after_read self.old (length buffer.new) }
     {
         self.reads = self.reads.saturating_add(1);
         if self.fails.contains(&self.reads) {
+            self.meter.stop();
             return Err(failed(&mut self.faults));
         }
         let count = self.most.min(buffer.len()).min(self.bytes.len() - self.at);
         let rest = &self.bytes[self.at..];
         copy_front(rest, buffer, count);
         self.at += count;
+        self.meter.give(count, buffer.len());
         Ok(count)
     }
 }
@@ -114,24 +124,29 @@ impl Source for MemSource {
 #[derive(Drop)]
 pub struct SureSource<'a> {
     rest: &'a [u8],
+    meter: Meter,
 }
 
 impl<'a> Model for SureSource<'a> {
-    ghost use Rattle.std.specs.Prelude.{ℕ, List};
+    ghost use Rattle.work_lang.specs.Memory.{Lent};
 
-    ghost Value = { List ℕ };
+    ghost Value = { Lent };
 
-    ghost view = { λ s. s.rest.now };
+    ghost view = { λ s. record { left = s.rest.now; meter = s.meter } };
 }
 
 impl<'a> SureSource<'a> {
     ghost use Rattle.std.specs.Prelude.{◌≡◌};
+    ghost use Rattle.work_lang.specs.Counts.{new_meter};
 
     /// A source of these bytes.
     pub fn of(bytes: &'a [u8]) -> SureSource<'a>
-        ensures { result ≡ bytes.now }
+        ensures { result ≡ record { left = bytes.now; meter = new_meter } }
     {
-        SureSource { rest: bytes }
+        SureSource {
+            rest: bytes,
+            meter: Meter::new(),
+        }
     }
 }
 
@@ -140,22 +155,27 @@ impl Source for SureSource<'_> {
     ghost use Rattle.std.specs.Io.{ReadsAtMost};
     ghost use Rattle.std.specs.Io.KnownBytes.{ReadConsumes};
     ghost use Rattle.work_lang.specs.Faults.{last_count, HasCause};
+    ghost use Rattle.work_lang.specs.Counts.{after_bytes, meter_after};
 
-    ghost left = { λ s. Some s };
+    ghost left = { λ s. Some s.left };
 
     ghost faults = { λ s. 0 };
 
+    ghost meter = { λ s. s.meter };
+
     fn read(&mut self, buffer: &mut [u8]) -> Result<usize, Failed>
         ensures bound { ReadsAtMost result buffer.new }
-        ensures bytes { ReadConsumes (Some self.old) (Some self.new) result buffer.new }
+        ensures bytes { ReadConsumes (Some self.old.left) (Some self.new.left) result buffer.new }
         ensures cause { HasCause 0 0 result }
         ensures counted { 0 ≤ last_count }
-        ensures count { result ≡ Ok (min (length buffer.new) (length self.old)) }
-        ensures after { self.new ≡ drop (min (length buffer.new) (length self.old)) self.old }
+        ensures metered { self.new.meter ≡ meter_after self.old.meter result (length buffer.new) }
+        ensures count { result ≡ Ok (min (length buffer.new) (length self.old.left)) }
+        ensures after { let count = min (length buffer.new) (length self.old.left) in self.new ≡ record { left = drop count self.old.left; meter = after_bytes self.old.meter count (length buffer.new) } }
     {
         let count = buffer.len().min(self.rest.len());
         copy_front(self.rest, buffer, count);
         self.rest = &self.rest[count..];
+        self.meter.give(count, buffer.len());
         Ok(count)
     }
 }
@@ -181,7 +201,7 @@ impl Model for MemSink {
 
     ghost view = { λ s. record { taken = s.bytes.items; room = s.room; most = s.most; fails = s.fails.items; writes = s.writes; faults = s.faults } };
 
-    ghost invariant = { λ s. (vec_len s.bytes + s.room ≤ vec_capacity s.bytes) × (0 < s.most) × (s.faults ≤ last_count) };
+    ghost invariant = { λ s. (vec_len s.bytes + s.room ≤ vec_capacity s.bytes) × (0 < s.most) × (s.faults ≤ last_count) × (s.writes ≤ last_count) };
 }
 
 impl MemSink {
@@ -223,11 +243,14 @@ impl Sink for MemSink {
     ghost use Rattle.std.specs.Io.{WritesAtMost};
     ghost use Rattle.std.specs.Io.KnownBytes.{WriteAppends};
     ghost use Rattle.work_lang.specs.Faults.{last_count, HasCause};
+    ghost use Rattle.work_lang.specs.Counts.{raised};
     ghost use Rattle.work_lang.specs.Memory.{takes_lines, asked_room, write_fails, after_write};
 
     ghost taken = { λ s. Some s.taken };
 
     ghost faults = { λ s. s.faults };
+
+    ghost tries = { λ s. s.writes };
 
     ghost whole = { takes_lines };
 
@@ -239,6 +262,7 @@ impl Sink for MemSink {
         ensures kept { takes_lines self.new ≡ takes_lines self.old }
         ensures cause { HasCause self.old.faults self.new.faults result }
         ensures counted { self.new.faults ≤ last_count }
+        ensures tried { self.new.writes ≡ raised self.old.writes 1 }
         ensures exact { is_err result ≡ write_fails self.old piece.now }
         ensures count { IfOk result (λ n. n ≡ asked_room self.old piece.now) }
         ensures after { self.new ≡ after_write self.old piece.now }
@@ -265,16 +289,17 @@ impl Sink for MemSink {
 #[derive(Clone, Copy)]
 pub struct SureSink {
     taken: u64,
+    writes: u64,
 }
 
 impl Model for SureSink {
-    ghost use Rattle.std.specs.Prelude.{ℕ};
+    ghost use Rattle.work_lang.specs.Memory.{Tally};
 
-    ghost Value = { ℕ };
+    ghost Value = { Tally };
 
-    ghost view = { λ s. s.taken };
+    ghost view = { λ s. record { taken = s.taken; writes = s.writes } };
 
-    ghost inverse = { λ n. record { taken = n } };
+    ghost inverse = { λ t. record { taken = t.taken; writes = t.writes } };
 }
 
 impl SureSink {
@@ -282,14 +307,17 @@ impl SureSink {
 
     /// A sink that has taken nothing.
     pub fn new() -> SureSink
-        ensures { result ≡ 0 }
+        ensures { result ≡ record { taken = 0; writes = 0 } }
     {
-        SureSink { taken: 0 }
+        SureSink {
+            taken: 0,
+            writes: 0,
+        }
     }
 
     /// How many bytes were taken. It stands still at 2^64 - 1.
     pub fn taken(&self) -> u64
-        ensures { result ≡ self.now }
+        ensures { result ≡ self.now.taken }
     {
         self.taken
     }
@@ -299,11 +327,14 @@ impl Sink for SureSink {
     ghost use Rattle.std.specs.Prelude.{◌≡◌, ◌+◌, ◌<◌, ◌≤◌, min, true, length, IfOk, Ok, None};
     ghost use Rattle.std.specs.Io.{WritesAtMost};
     ghost use Rattle.std.specs.Io.KnownBytes.{WriteAppends};
-    ghost use Rattle.work_lang.specs.Faults.{last_count, HasCause};
+    ghost use Rattle.work_lang.specs.Faults.{last_count, next_count, HasCause};
+    ghost use Rattle.work_lang.specs.Counts.{raised};
 
     ghost taken = { λ s. None };
 
     ghost faults = { λ s. 0 };
+
+    ghost tries = { λ s. s.writes };
 
     ghost whole = { λ s. true };
 
@@ -315,10 +346,12 @@ impl Sink for SureSink {
         ensures kept { true ≡ true }
         ensures cause { HasCause 0 0 result }
         ensures counted { 0 ≤ last_count }
+        ensures tried { self.new.writes ≡ raised self.old.writes 1 }
         ensures count { result ≡ Ok (length piece.now) }
-        ensures after { self.new ≡ min (self.old + length piece.now) last_count }
+        ensures after { self.new ≡ record { taken = min (self.old.taken + length piece.now) last_count; writes = next_count self.old.writes } }
     {
         self.taken = self.taken.saturating_add(piece.len() as u64);
+        self.writes = self.writes.saturating_add(1);
         Ok(piece.len())
     }
 }

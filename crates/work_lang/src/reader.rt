@@ -1,12 +1,12 @@
 //! Reading a workload line by line.
 
-ghost use Rattle.std.specs.Prelude.{◌≡◌, ◌<◌, ◌≤◌, ◌^◌, ◌-◌, true, length, OnOk, IfOk, Ok, Err};
+ghost use Rattle.std.specs.Prelude.{◌≡◌, ◌<◌, ◌≤◌, ◌^◌, ◌-◌, true, length, OnOk, IfOk, IsOk, false, Ok, Err};
 ghost use Rattle.std.specs.List.{list_all};
 ghost use Rattle.line_words.specs.Steps.{Gives};
 ghost use Rattle.target_desc.specs.Target.{IsVersion};
 ghost use Rattle.work_lang.specs.Limits.{most_bytes};
 ghost use Rattle.work_lang.specs.Workload.{Workload};
-ghost use Rattle.work_lang.specs.Reading.{State, start, has_room, call_at, is_repeat, first_thread_at, next_thread_at, in_thread_at, item_at, is_comment, is_printable, content_at, with_line, closed, next, after_line, Moves, ended, reading_of, Reads};
+ghost use Rattle.work_lang.specs.Reading.{State, start, has_room, call_at, is_repeat, first_thread_at, next_thread_at, in_thread_at, item_at, is_comment, is_printable, content_at, with_line, closed, next, after_line, takes_memory, NeedsMemory, Moves, ended, reading_of, Reads};
 ghost use Rattle.work_lang.specs.Spelling.{Spells};
 ghost use Rattle.work_lang.specs.Kept.{Allowed, IsKept};
 
@@ -300,7 +300,8 @@ impl Reader {
         requires kept { IsKept self.old }
         requires allowed { Allowed self.old item }
         requires few { length self.old.pieces < 2 ^ 32 - 1 }
-        ensures { OnOk result (self.new ≡ next self.old item) }
+        ensures next { OnOk result (self.new ≡ next self.old item) }
+        ensures free { takes_memory item ≡ false → IsOk result }
     {
         match item {
             Item::Version(version) => {
@@ -329,7 +330,9 @@ impl Reader {
         requires kept { IsKept self.old }
         requires few { length self.old.pieces < 2 ^ 32 - 1 }
         requires short { length line.now < 2 ^ 31 }
-        ensures { Moves result self.new (after_line self.old line.now) }
+        ensures moves { Moves result self.new (after_line self.old line.now) }
+        // A fault of the line is told as that, and a line that keeps nothing takes no memory.
+        ensures free { result ≡ Err LineFault.NoMemory → NeedsMemory (content_at self.old line.now) }
     {
         let said = self.content(line)?;
         match said {

@@ -1,6 +1,6 @@
 //! Rewriting a workload in version 2 of the language.
 
-ghost use Rattle.std.specs.Prelude.{◌≡◌, ◌≤◌, ◌<◌, ◌+◌, ◌-◌, ◌^◌, map, length, IsTrue, ◌↔◌, IfOk, IfErr, OnOk};
+ghost use Rattle.std.specs.Prelude.{◌≡◌, ◌≤◌, ◌<◌, ◌+◌, ◌-◌, ◌^◌, map, length, IsTrue, ◌↔◌, IfOk, IfErr, OnOk, IsOk};
 ghost use Rattle.std.specs.List.{AllByRecursion};
 ghost use Rattle.place_core.specs.Pieces.{script_lines};
 ghost use Rattle.work_lang.specs.Workload.{calls_made};
@@ -95,6 +95,8 @@ fn cut_all(alloc: Global, scripts: &[Script]) -> Result<Vec<Script>, NoMemory>
 pub fn to_second(alloc: Global, work: Work) -> Result<Work, (Work, NoMemory)>
     ensures ok { IfOk result (λ second. IsSecond work second) }
     ensures err { IfErr result (λ e. e.0 ≡ work) }
+    // Of version 2 it takes no memory.
+    ensures free { work.version ≡ 2 → IsOk result }
 {
     if work.version() == 2 {
         return Ok(work);

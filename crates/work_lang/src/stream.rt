@@ -1,10 +1,12 @@
 //! Where bytes come from and where they go.
 
-ghost use Rattle.std.specs.Prelude.{◌≡◌, ◌≢◌, ℕ, ◌<◌, ◌≤◌, Bool, true, List, [], ◌∷◌, length, IfOk, IfErr, OnOk, OnErr};
+ghost use Rattle.std.specs.Prelude.{◌≡◌, ◌≢◌, ℕ, ◌<◌, ◌≤◌, min, Bool, true, List, [], ◌∷◌, length, IfOk, IfErr, OnOk, OnErr};
 ghost use Rattle.std.specs.Io.{ReadsAtMost, WritesAtMost};
 ghost use Rattle.std.specs.Io.KnownBytes.{Appends, Keeps, ReadConsumes, WriteAppends};
 ghost use Rattle.std.specs.declared.option.Option.{Option};
 ghost use Rattle.work_lang.specs.Faults.{last_count, Rose, HasCause};
+ghost use Rattle.work_lang.specs.Counts.{raised, meter_after, ReadSoFar, ReadToStop, ReadsNoFurther};
+ghost use Rattle.work_lang.specs.declared.meter.Meter.{Meter};
 ghost use Rattle.work_lang.specs.Streams.{most_read, ReadsAll, LosesFront, AppendsFront, Writes};
 
 use std::alloc::Global;
@@ -23,13 +25,17 @@ pub trait Source {
     /// How often a read has failed. It never falls, and stands still at 2^64 - 1.
     ghost faults: { Self → ℕ };
 
+    /// How far it was read. Every source tells this.
+    ghost meter: { Self → Meter };
+
     /// Reads bytes into the front of the buffer, and says how many; none in a buffer that isn't empty is the end.
-    /// After `Failed` the bytes left are as they were. The count stands still where nothing failed.
+    /// After `Failed` the bytes left are as they were, and the count of faults is one higher; else it is as before.
     fn read(&mut self, buffer: &mut [u8]) -> Result<usize, Failed>
         ensures bound { ReadsAtMost result buffer.new }
         ensures bytes { ReadConsumes (left self.old) (left self.new) result buffer.new }
         ensures cause { HasCause (faults self.old) (faults self.new) result }
-        ensures counted { faults self.new ≤ last_count };
+        ensures counted { faults self.new ≤ last_count }
+        ensures metered { meter self.new ≡ meter_after (meter self.old) result (length buffer.new) };
 }
 
 /// Where bytes go.
@@ -40,11 +46,14 @@ pub trait Sink {
     /// How often a write has failed. It never falls, and stands still at 2^64 - 1.
     ghost faults: { Self → ℕ };
 
+    /// How often a write was tried. It stands still at 2^64 - 1.
+    ghost tries: { Self → ℕ };
+
     /// Whether a write of at most 256 bytes takes all of them or fails. No write changes it.
     ghost whole: { Self → Bool };
 
     /// Takes bytes from the front of the piece, and says how many: at least one of a piece that isn't empty.
-    /// After `Failed` nothing was taken. The count stands still where nothing failed.
+    /// After `Failed` nothing was taken, and the count of faults is one higher; else it is as before.
     fn write(&mut self, piece: &[u8]) -> Result<usize, Failed>
         ensures bound { WritesAtMost result piece.now }
         ensures progress { IfOk result (λ n. 0 < length piece.now → 0 < n) }
@@ -52,7 +61,8 @@ pub trait Sink {
         ensures whole { whole self.old ≡ true → length piece.now ≤ 256 → IfOk result (λ n. n ≡ length piece.now) }
         ensures kept { whole self.new ≡ whole self.old }
         ensures cause { HasCause (faults self.old) (faults self.new) result }
-        ensures counted { faults self.new ≤ last_count };
+        ensures counted { faults self.new ≤ last_count }
+        ensures tried { tries self.new ≡ raised (tries self.old) 1 };
 }
 
 /// Why reading to the end stopped early.
@@ -97,6 +107,10 @@ fn read_by<S: Source>(alloc: Global, source: &mut S, buffer: &mut [u8]) -> Resul
     ensures fault { result ≡ Err ReadEnd.Fault → Rose (S.faults source.old) (S.faults source.new) }
     ensures same { result ≢ Err ReadEnd.Fault → S.faults source.new ≡ S.faults source.old }
     ensures later { S.faults source.old ≤ S.faults source.new }
+    ensures ended { IfOk result (λ v. length v.items < most_read → ReadToStop (S.meter source.old) (S.meter source.new) (length v.items)) }
+    ensures full { IfOk result (λ v. length v.items ≡ most_read → ReadSoFar (S.meter source.old) (S.meter source.new) most_read) }
+    ensures stopped { result ≡ Err ReadEnd.Fault → (n : ℕ) × (n < most_read) × ReadToStop (S.meter source.old) (S.meter source.new) n }
+    ensures further { ReadsNoFurther most_read (S.meter source.old) (S.meter source.new) }
 {
     let mut all = Vec::new(alloc);
     'reads: while all.len() < MOST_READ {
@@ -115,9 +129,9 @@ fn read_by<S: Source>(alloc: Global, source: &mut S, buffer: &mut [u8]) -> Resul
     Ok(all)
 }
 
-/// Reads to the end, or until 8,388,609 bytes were read; the rest is left unread. It stops at the first read that
-/// fails: Fault comes only where the source's count rose in this call, and at every other answer the count is as
-/// before. What was read before a Fault or NoMemory stays read. It asks for 64 KiB at a time.
+/// Reads to the end, or until 8,388,609 bytes were read; the rest is left unread. It reads no further after a read that
+/// failed or ended the input: Fault comes only where the source's count of faults is one higher than before, and at every
+/// other answer the count is as before. What was read before a Fault or NoMemory stays read. It asks for 64 KiB at a time.
 pub fn read_all<S: Source>(alloc: Global, source: &mut S) -> Result<Vec<u8>, ReadEnd>
     ensures bytes { IfOk result (λ v. ReadsAll S.left source.old source.new v.items) }
     ensures short { IfOk result (λ v. length v.items ≤ most_read) }
@@ -125,6 +139,10 @@ pub fn read_all<S: Source>(alloc: Global, source: &mut S) -> Result<Vec<u8>, Rea
     ensures fault { result ≡ Err ReadEnd.Fault → Rose (S.faults source.old) (S.faults source.new) }
     ensures same { result ≢ Err ReadEnd.Fault → S.faults source.new ≡ S.faults source.old }
     ensures later { S.faults source.old ≤ S.faults source.new }
+    ensures ended { IfOk result (λ v. length v.items < most_read → ReadToStop (S.meter source.old) (S.meter source.new) (length v.items)) }
+    ensures full { IfOk result (λ v. length v.items ≡ most_read → ReadSoFar (S.meter source.old) (S.meter source.new) most_read) }
+    ensures stopped { result ≡ Err ReadEnd.Fault → (n : ℕ) × (n < most_read) × ReadToStop (S.meter source.old) (S.meter source.new) n }
+    ensures further { ReadsNoFurther most_read (S.meter source.old) (S.meter source.new) }
 {
     match room_of(alloc, READ_SIZE) {
         Ok(mut buffer) => read_by(alloc, source, buffer.as_mut_slice()),
@@ -133,12 +151,14 @@ pub fn read_all<S: Source>(alloc: Global, source: &mut S) -> Result<Vec<u8>, Rea
 }
 
 /// Writes a piece until all of it is taken, and stops at the first write that fails. Fault comes only where the sink's
-/// count rose in this call; what was taken is then a front of the piece, and nothing where the sink takes a piece of at
-/// most 256 bytes whole. At Ok the count is as before.
+/// count of faults is one higher than before; what was taken is then a front of the piece. Where the sink takes a piece of
+/// at most 256 bytes whole, such a piece is tried once, an empty one never, and at Fault nothing was taken. At Ok the
+/// count is as before.
 pub fn write_all<K: Sink>(piece: &[u8], sink: &mut K) -> Result<(), WriteEnd>
     ensures ok { OnOk result (Appends (K.taken sink.old) (K.taken sink.new) piece.now) }
     ensures err { OnErr result (AppendsFront (K.taken sink.old) (K.taken sink.new) piece.now) }
     ensures whole { K.whole sink.old ≡ true → length piece.now ≤ 256 → OnErr result (Keeps (K.taken sink.old) (K.taken sink.new)) }
+    ensures once { K.whole sink.old ≡ true → length piece.now ≤ 256 → K.tries sink.new ≡ raised (K.tries sink.old) (min 1 (length piece.now)) }
     ensures kept { K.whole sink.new ≡ K.whole sink.old }
     ensures cause { HasCause (K.faults sink.old) (K.faults sink.new) result }
 {
@@ -157,8 +177,9 @@ pub fn write_all<K: Sink>(piece: &[u8], sink: &mut K) -> Result<(), WriteEnd>
 
 /// Writes a line, with its end, as one piece.
 pub fn write_line<K: Sink>(line: &[u8], sink: &mut K) -> Result<(), WriteEnd>
-    requires { length line.now ≤ 256 }
-    ensures { Writes K.taken K.faults K.whole sink.old sink.new result (line.now ∷ []) }
+    requires some { 0 < length line.now }
+    requires short { length line.now ≤ 256 }
+    ensures { Writes K.taken K.faults K.tries K.whole sink.old sink.new result (line.now ∷ []) }
 {
     write_all(line, sink)
 }

@@ -11,7 +11,7 @@ invariant-objects g l = record {
   laid : drop l.number l.shape.objects ≡ objects_from l.target l.after l.rest;
   count : l.number + length l.rest ≤ 65536;
   room : l.after + 32 * length l.rest ≤ 2097152;
-  wrote : WroteUpTo g.K.Sink.taken g.K.Sink.faults g.K.Sink.whole l.fn.sink l.sink (lines_from l.target l.shape 0 0 l.objects) (lines_from l.target l.shape l.number l.after l.rest);
+  wrote : WroteUpTo g.K.Sink.taken g.K.Sink.faults g.K.Sink.tries g.K.Sink.whole l.fn.sink l.sink (lines_from l.target l.shape 0 0 l.objects) (lines_from l.target l.shape l.number l.after l.rest);
 }
 
 abbrev pub decreases-objects : goal.decreases-objects

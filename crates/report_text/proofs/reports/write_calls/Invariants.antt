@@ -12,5 +12,5 @@ invariant-calls g l = record {
   fits : AllByRecursion (LineFits l.objects) l.lines;
   answers : AnswerLines l.objects l.lines (drop l.i l.replies.items);
   text : IsTextOf l.objects l.call;
-  wrote : WroteUpTo g.K.Sink.taken g.K.Sink.faults g.K.Sink.whole l.fn.sink l.sink (reply_lines l.objects (script_lines l.script) l.replies.items) (reply_lines l.objects l.lines (drop l.i l.replies.items));
+  wrote : WroteUpTo g.K.Sink.taken g.K.Sink.faults g.K.Sink.tries g.K.Sink.whole l.fn.sink l.sink (reply_lines l.objects (script_lines l.script) l.replies.items) (reply_lines l.objects l.lines (drop l.i l.replies.items));
 }

@@ -6,7 +6,7 @@ use Rattle.report_text.proofs.reports.write_last.Given as goal
 abbrev pub invariant-objects : goal.invariant-objects
 invariant-objects g l = record {
   within : l.i ≤ length l.last.items;
-  wrote : WroteUpTo g.K.Sink.taken g.K.Sink.faults g.K.Sink.whole l.fn.sink l.sink (last_lines l.objects l.last.items l.fixed)
+  wrote : WroteUpTo g.K.Sink.taken g.K.Sink.faults g.K.Sink.tries g.K.Sink.whole l.fn.sink l.sink (last_lines l.objects l.last.items l.fixed)
       (last_lines (drop l.i l.objects) (drop l.i l.last.items) (drop l.i l.fixed));
 }
 

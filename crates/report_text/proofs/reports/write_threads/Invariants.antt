@@ -11,7 +11,7 @@ invariant-threads g l = record {
   count : l.number + length l.threads ≤ 65;
   fits : AllByRecursion (AllByRecursion (LineFits l.objects)) (map script_lines l.threads);
   answers : AnswerThreads l.objects (map script_lines l.threads) (map items_of l.replies);
-  wrote : WroteUpTo g.K.Sink.taken g.K.Sink.faults g.K.Sink.whole l.fn.sink l.sink (thread_lines l.objects 1 (map script_lines l.fn.threads) (map items_of l.fn.replies)) (thread_lines l.objects l.number (map script_lines l.threads) (map items_of l.replies));
+  wrote : WroteUpTo g.K.Sink.taken g.K.Sink.faults g.K.Sink.tries g.K.Sink.whole l.fn.sink l.sink (thread_lines l.objects 1 (map script_lines l.fn.threads) (map items_of l.fn.replies)) (thread_lines l.objects l.number (map script_lines l.threads) (map items_of l.replies));
 }
 
 abbrev pub decreases-threads : goal.decreases-threads

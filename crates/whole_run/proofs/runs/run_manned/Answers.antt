@@ -1,8 +1,8 @@
 use Rattle.std.proofs.Common.{◌≡◌, List, length, map, ap, sym, ◌∙◌, subst, arith}
 use Rattle.runner.specs.declared.worker.Worker.{Worker}
 use Rattle.runner.specs.Scripts.{AreReadyTo, HaveRunTo}
-use Rattle.whole_run.specs.Stages.{AreDone, HaveKept}
-use Rattle.whole_run.proofs.Manning.{AreManned-ready, AreManned-done, manned_kept, HaveRun-scripts, HaveRun-length, ran_items}
+use Rattle.whole_run.specs.Stages.{AreDone, HaveKept, HaveNone}
+use Rattle.whole_run.proofs.Manning.{AreManned-ready, AreManned-done, manned_kept, manned_none, HaveRun-scripts, HaveRun-length, ran_items}
 use Rattle.whole_run.proofs.runs.run_manned.Goals as goal
 
 pub run_each-requires-clause-ready : goal.run_each-requires-clause-ready
@@ -22,6 +22,7 @@ returns g c =
     record {
       done = subst (AreDone a 1) (sym is) (AreManned-done keep a 1 old new c.requires.manned ran);
       kept = λ same. subst HaveKept (sym is) (manned_kept keep a old new same c.requires.manned ran);
+      none = λ same. subst HaveNone (sym is) (manned_none keep a old new same c.requires.manned ran);
       scripts = ap (map (λ (w : Worker). w.script)) is ∙ HaveRun-scripts keep a.shape old new ran;
       count = ap length is ∙ HaveRun-length keep a.shape old new ran;
     }

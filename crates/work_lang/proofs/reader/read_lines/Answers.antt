@@ -16,15 +16,15 @@ lines-init c = record { kept = rw c.new-reader.ensures start_kept; so_far = rw c
 
 pub returns-in-Err-clause-exact : goal.returns-in-Err-clause-exact
 returns-in-Err-clause-exact c =
-    rw c.at.ensures (stops c.in-Err.fault c.lines.reader c.take_line.new.self c.lines.number c.line_at.result.0.now (lines_of c.lines.rest.now) (lines_of c.line_at.result.1.now) (reading_of c.args.text.now) c.line_at.ensures.line c.in-Err.ensures c.lines.invariant.so_far)
+    rw c.at.ensures (stops c.in-Err.fault c.lines.reader c.take_line.new.self c.lines.number c.line_at.result.0.now (lines_of c.lines.rest.now) (lines_of c.line_at.result.1.now) (reading_of c.args.text.now) c.line_at.ensures.line c.in-Err.ensures.moves c.lines.invariant.so_far)
 
 pub lines-preserved : goal.lines-preserved
 lines-preserved c =
     record {
-      so_far = goes_on c.lines.reader c.take_line.new.self c.lines.number c.line_at.result.0.now (lines_of c.lines.rest.now) (lines_of c.line_at.result.1.now) (reading_of c.args.text.now) c.line_at.ensures.line c.in-Ok.ensures c.lines.invariant.so_far;
-      kept = line_kept c.lines.reader c.line_at.result.0.now c.take_line.new.self c.lines.invariant.kept c.in-Ok.ensures;
+      so_far = goes_on c.lines.reader c.take_line.new.self c.lines.number c.line_at.result.0.now (lines_of c.lines.rest.now) (lines_of c.line_at.result.1.now) (reading_of c.args.text.now) c.line_at.ensures.line c.in-Ok.ensures.moves c.lines.invariant.so_far;
+      kept = line_kept c.lines.reader c.line_at.result.0.now c.take_line.new.self c.lines.invariant.kept c.in-Ok.ensures.moves;
       short = omega arith;
-      few = omega (arith, c.lines.invariant.few, line_pieces c.lines.reader c.line_at.result.0.now c.take_line.new.self c.lines.invariant.kept c.in-Ok.ensures);
+      few = omega (arith, c.lines.invariant.few, line_pieces c.lines.reader c.line_at.result.0.now c.take_line.new.self c.lines.invariant.kept c.in-Ok.ensures.moves);
     }
 
 pub returns-clause-exact : goal.returns-clause-exact

@@ -2,7 +2,7 @@ use Rattle.std.proofs.Common.{map, ap}
 use Rattle.place_core.specs.Pieces.{script_lines}
 use Rattle.work_lang.proofs.CanonicalSteps.{threads_fit}
 use Rattle.top_call.proofs.Answering.{laid_fit, laid_fixed}
-use Rattle.top_call.proofs.running.fixed_on.Goals as goal
+use Rattle.top_call.proofs.prepared.fixed_on.Goals as goal
 
 pub fixed_values-requires-clause-fits : goal.fixed_values-requires-clause-fits
 fixed_values-requires-clause-fits c =

@@ -1,0 +1,5 @@
+use Rattle.work_lang.proofs.TextFacts as facts
+use Rattle.work_lang.proofs.vectors.call_of_unknown_name.Goals as goal
+
+pub returns : goal.returns
+returns c = facts.call_of_unknown_name

@@ -1,0 +1,5 @@
+use Rattle.work_lang.proofs.TextFacts as facts
+use Rattle.work_lang.proofs.vectors.empty_text.Goals as goal
+
+pub returns : goal.returns
+returns c = facts.empty_text
