@@ -85,6 +85,7 @@ impl<B> Model for TableOf<B> {
 pub type Table = TableOf<Box<dyn Rule>>;
 
 impl<B: Rule> TableOf<B> {
+    /// A table of no rules, for numbers from `lo` to `hi`. It takes no memory.
     pub fn new(alloc: Global, lo: u128, hi: u128) -> TableOf<B>
         requires { lo ≤ hi }
         ensures range { (result.lo ≡ lo) × (result.hi ≡ hi) }
@@ -98,12 +99,15 @@ impl<B: Rule> TableOf<B> {
         }
     }
 
+    /// How many rules the table has.
     pub fn len(&self) -> u32
         ensures { result ≡ length self.now.rules }
     {
         self.rules.len() as u32
     }
 
+    /// Stores a rule after the others, and answers its place, counted from 0. `OtherRange` where its range isn't the
+    /// table's, and else `NoMemory` where memory is refused: then the rule is given back, and the table is as it was.
     pub fn push(&mut self, rule: B) -> Result<u32, (B, PushFault)>
         requires room { length self.old.rules < 2 ^ 32 - 1 }
         requires rules { AreRules B.low B.high B.is_rule self.old }
