@@ -406,6 +406,21 @@ fn first_cell_with_a_fault_decides(rt: HostRuntime) -> Result<(), Fail> {
     Ok(())
 }
 
+/// The most cells that a region may have, a byte each.
+#[test]
+fn the_most_cells_are_opened(rt: HostRuntime) -> Result<(), Fail> {
+    let mut cells = Vec::new(rt.alloc());
+    for address in 0..65_536 {
+        cells.push(cell(address, 1, 7))?;
+    }
+    let target = packed(64, false, true);
+    let (region, mut root) = open(rt.alloc(), &target, &cells).ok_or("it opens")?;
+    let mut pass = give(&region, &mut root).ok_or("a pass")?;
+    let reply = make(&rt, &region, &mut pass, load(1, 65_535));
+    assert_eq!(rt; reply, Ok(Reply::Value(7)));
+    Ok(())
+}
+
 #[test]
 fn lowest_address_lies_lowest_or_highest(rt: HostRuntime) -> Result<(), Fail> {
     for (big, shift) in [(false, 8), (true, 48)] {

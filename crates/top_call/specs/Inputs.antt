@@ -30,3 +30,10 @@ ReadsInput left faults old new (Err unread.Source) = Rose (faults old) (faults n
 ReadsInput left faults old new (Err (unread.Text line word cause)) =
     WasFaulty (left old) (left new) (record { line = line; word = word; cause = cause }) × (faults new ≡ faults old)
 ReadsInput left faults old new (Err unread.NoMemory) = faults new ≡ faults old
+
+-- a fact where no fault of a text was found
+abbrev pub UnlessFaulty : Result Workload Unread → Type 0 → Type 0
+UnlessFaulty (Ok w) P = P
+UnlessFaulty (Err unread.Source) P = P
+UnlessFaulty (Err (unread.Text line word cause)) P = Unit {0}
+UnlessFaulty (Err unread.NoMemory) P = P

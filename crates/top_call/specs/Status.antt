@@ -155,6 +155,15 @@ WhereNotWritten ReadFault P = P
 WhereNotWritten WriteFault P = Unit {0}
 WhereNotWritten NoMemory P = P
 
+-- a fact where the status can't tell of a fault of a text
+abbrev pub WhereNoFault : Status → Type 0 → Type 0
+WhereNoFault Done P = P
+WhereNoFault Refused P = Unit {0}
+WhereNoFault Usage P = P
+WhereNoFault ReadFault P = P
+WhereNoFault WriteFault P = Unit {0}
+WhereNoFault NoMemory P = P
+
 -- a fact where the words ask for nothing that is read
 abbrev pub WhereNotRead : Option Command → Type 0 → Type 0
 WhereNotRead (Some (Run t)) P = Unit {0}

@@ -1,6 +1,6 @@
 //! What the commands write that describe and don't run.
 
-ghost use Rattle.std.specs.Prelude.{◌≡◌, Some, true, [], ◌∷◌, map};
+ghost use Rattle.std.specs.Prelude.{◌≡◌, ◌≢◌, Some, true, [], ◌∷◌, map};
 ghost use Rattle.std.specs.List.{AllByRecursion};
 ghost use Rattle.target_desc.specs.Spelling.{IsName};
 ghost use Rattle.work_lang.specs.Streams.{Writes};
@@ -30,9 +30,10 @@ pub(crate) fn on_target(work: Work, target: Option<Target>) -> Work
     }
 }
 
-/// Writes the canonical text of a workload.
+/// Writes the canonical text of a workload. It takes no memory.
 fn check_work<K: Sink>(work: &Work, sink: &mut K) -> Status
     ensures wrote { WritesOwn K.taken K.faults K.tries K.whole sink.old sink.new (description_of Command.Check work.now) result }
+    ensures memory { result ≢ Status.NoMemory }
     ensures kept { K.whole sink.new ≡ K.whole sink.old }
 {
     match print_work(work, sink) {
@@ -80,6 +81,7 @@ pub(crate) fn describe_work<K: Sink>(
     requires reads { reads command ≡ true }
     requires asked { IsAsked command }
     ensures wrote { WritesTold K.taken K.faults K.tries K.whole sink.old sink.new command work result }
+    ensures memory { command ≡ Command.Check → result ≢ Status.NoMemory }
     ensures kept { K.whole sink.new ≡ K.whole sink.old }
 {
     match command {
@@ -126,9 +128,10 @@ fn write_targets<K: Sink>(sink: &mut K) -> Result<(), WriteEnd>
     write_rows(builtins(), sink)
 }
 
-/// Writes the text of the built-in targets.
+/// Writes the text of the built-in targets. It takes no memory.
 pub(crate) fn tell_targets<K: Sink>(sink: &mut K) -> Status
     ensures wrote { WritesOwn K.taken K.faults K.tries K.whole sink.old sink.new targets_lines result }
+    ensures memory { result ≢ Status.NoMemory }
     ensures kept { K.whole sink.new ≡ K.whole sink.old }
 {
     match write_targets(sink) {

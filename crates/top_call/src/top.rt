@@ -1,11 +1,12 @@
 //! The top call.
 
-ghost use Rattle.std.specs.Prelude.{◌≡◌, true, Some, None};
+ghost use Rattle.std.specs.Prelude.{◌≡◌, ◌≢◌, true, Some, None};
 ghost use Rattle.work_lang.specs.Counts.{ReadsNoFurther};
+ghost use Rattle.work_lang.specs.Limits.{most_bytes};
 ghost use Rattle.work_lang.specs.Streams.{most_read, LosesFront};
 ghost use Rattle.top_call.specs.Outside.{outside};
 ghost use Rattle.top_call.specs.Commands.{command_of, described_by, described, reads, IsAsked, IsTargetAsked};
-ghost use Rattle.top_call.specs.Status.{status_of, SaysOf, Says, CountsStay, WhereNotWritten, WhereNotRead, Completes};
+ghost use Rattle.top_call.specs.Status.{status_of, SaysOf, Says, CountsStay, WhereNotWritten, WhereNotRead, WhereNoFault, Completes};
 
 use crate::command::{Command, WordsFault, read_words};
 use crate::describing::{describe_work, on_target, tell_targets, tell_unread};
@@ -45,6 +46,7 @@ fn describe_input<S: Source, K: Sink>(
     ensures counts { CountsStay result (outside S.left S.faults S.meter K.taken K.faults K.tries K.whole source.old sink.old) (outside S.left S.faults S.meter K.taken K.faults K.tries K.whole source.new sink.new) }
     ensures front { LosesFront S.left source.old source.new }
     ensures further { ReadsNoFurther most_read (S.meter source.old) (S.meter source.new) }
+    ensures long { WhereNoFault result (ReadsNoFurther most_bytes (S.meter source.old) (S.meter source.new)) }
     ensures kept { K.whole sink.new ≡ K.whole sink.old }
     ensures sink { WhereNotWritten result (sink.new ≡ sink.old) }
 {
@@ -62,10 +64,13 @@ fn describe_command<S: Source, K: Sink>(
     sink: &mut K,
 ) -> Status
     requires asked { IsAsked command }
+    // The five targets are written without memory.
+    ensures memory { command ≡ Command.Targets → result ≢ Status.NoMemory }
     ensures says { Says (described_by command) (outside S.left S.faults S.meter K.taken K.faults K.tries K.whole source.old sink.old) (outside S.left S.faults S.meter K.taken K.faults K.tries K.whole source.new sink.new) result None }
     ensures counts { CountsStay result (outside S.left S.faults S.meter K.taken K.faults K.tries K.whole source.old sink.old) (outside S.left S.faults S.meter K.taken K.faults K.tries K.whole source.new sink.new) }
     ensures front { LosesFront S.left source.old source.new }
     ensures further { ReadsNoFurther most_read (S.meter source.old) (S.meter source.new) }
+    ensures long { WhereNoFault result (ReadsNoFurther most_bytes (S.meter source.old) (S.meter source.new)) }
     ensures kept { K.whole sink.new ≡ K.whole sink.old }
     ensures source { WhereNotRead (described_by command) (source.new ≡ source.old) }
     ensures sink { WhereNotWritten result (sink.new ≡ sink.old) }
@@ -93,6 +98,7 @@ fn run_input<R: Threads + Wait + Sync, S: Source, K: Sink, G: Gate>(
     ensures counts { CountsStay result.status (outside S.left S.faults S.meter K.taken K.faults K.tries K.whole source.old sink.old) (outside S.left S.faults S.meter K.taken K.faults K.tries K.whole source.new sink.new) }
     ensures front { LosesFront S.left source.old source.new }
     ensures further { ReadsNoFurther most_read (S.meter source.old) (S.meter source.new) }
+    ensures long { WhereNoFault result.status (ReadsNoFurther most_bytes (S.meter source.old) (S.meter source.new)) }
     ensures kept { K.whole sink.new ≡ K.whole sink.old }
     ensures sink { WhereNotWritten result.status (sink.new ≡ sink.old) }
 {
@@ -116,7 +122,7 @@ fn run_input<R: Threads + Wait + Sync, S: Source, K: Sink, G: Gate>(
 /// same workload in version 2 (`convert`), its plan table (`plan`), or the built-in targets (`targets`), which leaves
 /// the source as it was. It always returns. At the words of `run` and `many` it answers Usage, as at words that are no
 /// form. The status says how it ended, and what was read and
-/// written then; it never reads more than 8,388,609 bytes.
+/// written then; it never reads more than 8,388,609 bytes, and a text of so many is never told as want of memory.
 pub fn describe<S: Source, K: Sink>(
     alloc: Global,
     words: &[String],
@@ -128,6 +134,7 @@ pub fn describe<S: Source, K: Sink>(
     ensures counts { CountsStay result (outside S.left S.faults S.meter K.taken K.faults K.tries K.whole source.old sink.old) (outside S.left S.faults S.meter K.taken K.faults K.tries K.whole source.new sink.new) }
     ensures front { LosesFront S.left source.old source.new }
     ensures further { ReadsNoFurther most_read (S.meter source.old) (S.meter source.new) }
+    ensures long { WhereNoFault result (ReadsNoFurther most_bytes (S.meter source.old) (S.meter source.new)) }
     ensures kept { K.whole sink.new ≡ K.whole sink.old }
     ensures source { WhereNotRead (described (command_of words.now)) (source.new ≡ source.old) }
     ensures sink { WhereNotWritten result (sink.new ≡ sink.old) }
@@ -162,6 +169,7 @@ pub fn portable_call<R: Threads + Wait + Sync, S: Source, K: Sink, G: Gate>(
     // How far it reads, and what it leaves untouched.
     ensures front { LosesFront S.left source.old source.new }
     ensures further { ReadsNoFurther most_read (S.meter source.old) (S.meter source.new) }
+    ensures long { WhereNoFault result.status (ReadsNoFurther most_bytes (S.meter source.old) (S.meter source.new)) }
     ensures kept { K.whole sink.new ≡ K.whole sink.old }
     ensures source { WhereNotRead (command_of words.now) (source.new ≡ source.old) }
     ensures sink { WhereNotWritten result.status (sink.new ≡ sink.old) }

@@ -10,7 +10,7 @@ use Rattle.target_desc.specs.Reading.{word_at as target_word_at, need_at as targ
 use Rattle.work_lang.specs.declared.fault.Cause.TheVariants as causes
 use Rattle.work_lang.specs.Slips.{word_at, end_at, need_at, check_at, value_at}
 use Rattle.work_lang.specs.Reading.{version_at, target_line_at, object_at, thread_at, number_at, one_operand_at, two_operands_at, operands_at, operation_in, operation_at, order_at, one_order_at, two_orders_at, orders_at, call_at, repeat_at, first_thread_at, next_thread_at, in_thread_at, item_at, content_at, after_line, run, reading_of}
-use Rattle.work_lang.specs.Vectors.{HasFault, NoObjectsIsRead, OneThreadIsRead, CommentsAndSpacesIsRead, LanesIsRead, InASectionIsRead, KindsOfValuesIsRead, BoolsAndPointersIsRead, ABlockIsRead, ANewValueIsRead, ABigTargetIsRead, TwoThreadsIsRead, WeakExchangeIsRead}
+use Rattle.work_lang.specs.Vectors.{HasFault, NoObjectsIsRead, OneThreadIsRead, CommentsAndSpacesIsRead, LanesIsRead, InASectionIsRead, KindsOfValuesIsRead, BoolsAndPointersIsRead, ABlockIsRead, ANewValueIsRead, ABigTargetIsRead, TwoThreadsIsRead, WeakExchangeIsRead, EightBytesIsRead, ALeastValueIsRead, ANandIsRead, AMinimumIsRead, PositionsIsRead, FourWordsIsRead, NoThreadsIsRead, EqualLinesIsRead, AUsualWorkloadIsRead}
 
 pub empty_text : HasFault [] 0 0 causes.Missing
 unfolding lines_of words_of parsed_value kind_of_word operation_of_word order_of_word steps_of target_word_at target_need_at target_end_at big_word_at no_big_at big_at description_at target_at word_at end_at need_at check_at value_at version_at target_line_at object_at thread_at number_at one_operand_at two_operands_at operands_at operation_in operation_at order_at one_order_at two_orders_at orders_at call_at repeat_at first_thread_at next_thread_at in_thread_at item_at content_at after_line run reading_of
@@ -235,3 +235,39 @@ two_threads = refl
 pub weak_exchange : WeakExchangeIsRead
 unfolding lines_of words_of parsed_value kind_of_word operation_of_word order_of_word steps_of target_word_at target_need_at target_end_at big_word_at no_big_at big_at description_at target_at word_at end_at need_at check_at value_at version_at target_line_at object_at thread_at number_at one_operand_at two_operands_at operands_at operation_in operation_at order_at one_order_at two_orders_at orders_at call_at repeat_at first_thread_at next_thread_at in_thread_at item_at content_at after_line run reading_of
 weak_exchange = refl
+
+pub eight_bytes : EightBytesIsRead
+unfolding lines_of words_of parsed_value kind_of_word operation_of_word order_of_word steps_of target_word_at target_need_at target_end_at big_word_at no_big_at big_at description_at target_at word_at end_at need_at check_at value_at version_at target_line_at object_at thread_at number_at one_operand_at two_operands_at operands_at operation_in operation_at order_at one_order_at two_orders_at orders_at call_at repeat_at first_thread_at next_thread_at in_thread_at item_at content_at after_line run reading_of
+eight_bytes = refl
+
+pub a_least_value : ALeastValueIsRead
+unfolding lines_of words_of parsed_value kind_of_word operation_of_word order_of_word steps_of target_word_at target_need_at target_end_at big_word_at no_big_at big_at description_at target_at word_at end_at need_at check_at value_at version_at target_line_at object_at thread_at number_at one_operand_at two_operands_at operands_at operation_in operation_at order_at one_order_at two_orders_at orders_at call_at repeat_at first_thread_at next_thread_at in_thread_at item_at content_at after_line run reading_of
+a_least_value = refl
+
+pub a_nand : ANandIsRead
+unfolding lines_of words_of parsed_value kind_of_word operation_of_word order_of_word steps_of target_word_at target_need_at target_end_at big_word_at no_big_at big_at description_at target_at word_at end_at need_at check_at value_at version_at target_line_at object_at thread_at number_at one_operand_at two_operands_at operands_at operation_in operation_at order_at one_order_at two_orders_at orders_at call_at repeat_at first_thread_at next_thread_at in_thread_at item_at content_at after_line run reading_of
+a_nand = refl
+
+pub a_minimum : AMinimumIsRead
+unfolding lines_of words_of parsed_value kind_of_word operation_of_word order_of_word steps_of target_word_at target_need_at target_end_at big_word_at no_big_at big_at description_at target_at word_at end_at need_at check_at value_at version_at target_line_at object_at thread_at number_at one_operand_at two_operands_at operands_at operation_in operation_at order_at one_order_at two_orders_at orders_at call_at repeat_at first_thread_at next_thread_at in_thread_at item_at content_at after_line run reading_of
+a_minimum = refl
+
+pub positions : PositionsIsRead
+unfolding lines_of words_of parsed_value kind_of_word operation_of_word order_of_word steps_of target_word_at target_need_at target_end_at big_word_at no_big_at big_at description_at target_at word_at end_at need_at check_at value_at version_at target_line_at object_at thread_at number_at one_operand_at two_operands_at operands_at operation_in operation_at order_at one_order_at two_orders_at orders_at call_at repeat_at first_thread_at next_thread_at in_thread_at item_at content_at after_line run reading_of
+positions = refl
+
+pub four_words : FourWordsIsRead
+unfolding lines_of words_of parsed_value kind_of_word operation_of_word order_of_word steps_of target_word_at target_need_at target_end_at big_word_at no_big_at big_at description_at target_at word_at end_at need_at check_at value_at version_at target_line_at object_at thread_at number_at one_operand_at two_operands_at operands_at operation_in operation_at order_at one_order_at two_orders_at orders_at call_at repeat_at first_thread_at next_thread_at in_thread_at item_at content_at after_line run reading_of
+four_words = refl
+
+pub no_threads : NoThreadsIsRead
+unfolding lines_of words_of parsed_value kind_of_word operation_of_word order_of_word steps_of target_word_at target_need_at target_end_at big_word_at no_big_at big_at description_at target_at word_at end_at need_at check_at value_at version_at target_line_at object_at thread_at number_at one_operand_at two_operands_at operands_at operation_in operation_at order_at one_order_at two_orders_at orders_at call_at repeat_at first_thread_at next_thread_at in_thread_at item_at content_at after_line run reading_of
+no_threads = refl
+
+pub equal_lines : EqualLinesIsRead
+unfolding lines_of words_of parsed_value kind_of_word operation_of_word order_of_word steps_of target_word_at target_need_at target_end_at big_word_at no_big_at big_at description_at target_at word_at end_at need_at check_at value_at version_at target_line_at object_at thread_at number_at one_operand_at two_operands_at operands_at operation_in operation_at order_at one_order_at two_orders_at orders_at call_at repeat_at first_thread_at next_thread_at in_thread_at item_at content_at after_line run reading_of
+equal_lines = refl
+
+pub a_usual_workload : AUsualWorkloadIsRead
+unfolding lines_of words_of parsed_value kind_of_word operation_of_word order_of_word steps_of target_word_at target_need_at target_end_at big_word_at no_big_at big_at description_at target_at word_at end_at need_at check_at value_at version_at target_line_at object_at thread_at number_at one_operand_at two_operands_at operands_at operation_in operation_at order_at one_order_at two_orders_at orders_at call_at repeat_at first_thread_at next_thread_at in_thread_at item_at content_at after_line run reading_of
+a_usual_workload = refl

@@ -3,7 +3,7 @@ use Rattle.std.specs.Prelude.{◌≡◌, ℕ, List, [], ◌∷◌, ◌++◌, tru
 use Rattle.op_table.specs.declared.call.Call.TheVariants as call
 use Rattle.op_table.specs.declared.kind.Class.TheVariants as class
 use Rattle.op_table.specs.declared.kind.Width.TheVariants.{W1, W8, W16, W32, W64, W128}
-use Rattle.op_table.specs.declared.order.Order.TheVariants.{Acquire, Release, AcqRel, SeqCst}
+use Rattle.op_table.specs.declared.order.Order.TheVariants.{Relaxed, Acquire, Release, AcqRel, SeqCst}
 use Rattle.target_desc.specs.Target.{all_steps, no_steps}
 use Rattle.place_core.specs.declared.script.Piece.TheVariants.{One, Block}
 use Rattle.work_lang.specs.declared.fault.Cause.{Cause}
@@ -96,3 +96,57 @@ abbrev pub WeakExchangeIsRead : Type 0
 WeakExchangeIsRead =
     IsReadAs (codes "work 1" ∷ codes "target full64" ∷ codes "object a u8 4" ∷ codes "thread" ∷ codes "a compare_exchange 3 9" ∷ codes "a compare_exchange_weak 9 4" ∷ codes "end" ∷ [])
     (record { version = 1; target = record { word_bits = 64; packed = false; steps = all_steps; locks = 67; section = false; big = false }; objects = ((record { name = codes "a"; kind = record { width = W8; signed = false; class = class.Int }; start = 4 }) ∷ []); scripts = (((One (record { object = 0; call = call.Cas 3 9; success = SeqCst; failure = Some SeqCst })) ∷ (One (record { object = 0; call = call.CasWeak 9 4; success = SeqCst; failure = Some SeqCst })) ∷ []) ∷ []) })
+
+-- lanes that fill a word
+abbrev pub EightBytesIsRead : Type 0
+EightBytesIsRead =
+    IsReadAs (codes "work 1" ∷ codes "target word64" ∷ codes "object c0 u8 1" ∷ codes "object c1 u8 1" ∷ codes "object c2 u8 1" ∷ codes "object c3 u8 1" ∷ codes "object c4 u8 1" ∷ codes "object c5 u8 1" ∷ codes "object c6 u8 1" ∷ codes "object c7 u8 255" ∷ codes "thread" ∷ codes "c7 fetch_add 1" ∷ codes "end" ∷ [])
+    (record { version = 1; target = record { word_bits = 64; packed = true; steps = all_steps; locks = 67; section = false; big = false }; objects = ((record { name = codes "c0"; kind = record { width = W8; signed = false; class = class.Int }; start = 1 }) ∷ (record { name = codes "c1"; kind = record { width = W8; signed = false; class = class.Int }; start = 1 }) ∷ (record { name = codes "c2"; kind = record { width = W8; signed = false; class = class.Int }; start = 1 }) ∷ (record { name = codes "c3"; kind = record { width = W8; signed = false; class = class.Int }; start = 1 }) ∷ (record { name = codes "c4"; kind = record { width = W8; signed = false; class = class.Int }; start = 1 }) ∷ (record { name = codes "c5"; kind = record { width = W8; signed = false; class = class.Int }; start = 1 }) ∷ (record { name = codes "c6"; kind = record { width = W8; signed = false; class = class.Int }; start = 1 }) ∷ (record { name = codes "c7"; kind = record { width = W8; signed = false; class = class.Int }; start = 255 }) ∷ []); scripts = (((One (record { object = 7; call = call.Add 1 false; success = SeqCst; failure = None })) ∷ []) ∷ []) })
+
+-- the least value of a signed kind
+abbrev pub ALeastValueIsRead : Type 0
+ALeastValueIsRead =
+    IsReadAs (codes "work 1" ∷ codes "target full64" ∷ codes "object n i8 -128" ∷ codes "thread" ∷ codes "n fetch_neg" ∷ codes "end" ∷ [])
+    (record { version = 1; target = record { word_bits = 64; packed = false; steps = all_steps; locks = 67; section = false; big = false }; objects = ((record { name = codes "n"; kind = record { width = W8; signed = true; class = class.Int }; start = 128 }) ∷ []); scripts = (((One (record { object = 0; call = call.Neg false; success = SeqCst; failure = None })) ∷ []) ∷ []) })
+
+-- a call of one operand
+abbrev pub ANandIsRead : Type 0
+ANandIsRead =
+    IsReadAs (codes "work 1" ∷ codes "target full64" ∷ codes "object n u8 12" ∷ codes "thread" ∷ codes "n fetch_nand 10" ∷ codes "end" ∷ [])
+    (record { version = 1; target = record { word_bits = 64; packed = false; steps = all_steps; locks = 67; section = false; big = false }; objects = ((record { name = codes "n"; kind = record { width = W8; signed = false; class = class.Int }; start = 12 }) ∷ []); scripts = (((One (record { object = 0; call = call.Nand 10; success = SeqCst; failure = None })) ∷ []) ∷ []) })
+
+-- operands of a signed kind
+abbrev pub AMinimumIsRead : Type 0
+AMinimumIsRead =
+    IsReadAs (codes "work 1" ∷ codes "target full64" ∷ codes "object n i16 -5" ∷ codes "thread" ∷ codes "n fetch_max 3" ∷ codes "n fetch_min -32768" ∷ codes "end" ∷ [])
+    (record { version = 1; target = record { word_bits = 64; packed = false; steps = all_steps; locks = 67; section = false; big = false }; objects = ((record { name = codes "n"; kind = record { width = W16; signed = true; class = class.Int }; start = 65531 }) ∷ []); scripts = (((One (record { object = 0; call = call.Max 3; success = SeqCst; failure = None })) ∷ (One (record { object = 0; call = call.Min 32768; success = SeqCst; failure = None })) ∷ []) ∷ []) })
+
+-- a position of a bit counts modulo the width only when the call is made
+abbrev pub PositionsIsRead : Type 0
+PositionsIsRead =
+    IsReadAs (codes "work 1" ∷ codes "target full64" ∷ codes "object n u8 0" ∷ codes "thread" ∷ codes "n bit_set 3" ∷ codes "n bit_set 11" ∷ codes "end" ∷ [])
+    (record { version = 1; target = record { word_bits = 64; packed = false; steps = all_steps; locks = 67; section = false; big = false }; objects = ((record { name = codes "n"; kind = record { width = W8; signed = false; class = class.Int }; start = 0 }) ∷ []); scripts = (((One (record { object = 0; call = call.BitSet 3; success = SeqCst; failure = None })) ∷ (One (record { object = 0; call = call.BitSet 11; success = SeqCst; failure = None })) ∷ []) ∷ []) })
+
+-- an object of four words
+abbrev pub FourWordsIsRead : Type 0
+FourWordsIsRead =
+    IsReadAs (codes "work 1" ∷ codes "target word32" ∷ codes "object w u128 340282366920938463463374607431768211455" ∷ codes "thread" ∷ codes "w fetch_add 1" ∷ codes "end" ∷ [])
+    (record { version = 1; target = record { word_bits = 32; packed = true; steps = all_steps; locks = 67; section = false; big = false }; objects = ((record { name = codes "w"; kind = record { width = W128; signed = false; class = class.Int }; start = 340282366920938463463374607431768211455 }) ∷ []); scripts = (((One (record { object = 0; call = call.Add 1 false; success = SeqCst; failure = None })) ∷ []) ∷ []) })
+
+-- objects alone are a workload
+abbrev pub NoThreadsIsRead : Type 0
+NoThreadsIsRead =
+    IsReadAs (codes "work 1" ∷ codes "target cas32" ∷ codes "object u u32 0" ∷ codes "object g u64 0" ∷ [])
+    (record { version = 1; target = record { word_bits = 32; packed = true; steps = no_steps; locks = 67; section = false; big = false }; objects = ((record { name = codes "u"; kind = record { width = W32; signed = false; class = class.Int }; start = 0 }) ∷ (record { name = codes "g"; kind = record { width = W64; signed = false; class = class.Int }; start = 0 }) ∷ []); scripts = [] })
+
+-- an order that is left out is the strongest
+abbrev pub EqualLinesIsRead : Type 0
+EqualLinesIsRead =
+    IsReadAs (codes "work 1" ∷ codes "target full64" ∷ codes "object n u8 0" ∷ codes "thread" ∷ codes "n load" ∷ codes "n load seq_cst" ∷ codes "n fetch_add 1" ∷ codes "end" ∷ [])
+    (record { version = 1; target = record { word_bits = 64; packed = false; steps = all_steps; locks = 67; section = false; big = false }; objects = ((record { name = codes "n"; kind = record { width = W8; signed = false; class = class.Int }; start = 0 }) ∷ []); scripts = (((One (record { object = 0; call = call.Load; success = SeqCst; failure = None })) ∷ (One (record { object = 0; call = call.Load; success = SeqCst; failure = None })) ∷ (One (record { object = 0; call = call.Add 1 false; success = SeqCst; failure = None })) ∷ []) ∷ []) })
+
+-- three threads on objects of four kinds
+abbrev pub AUsualWorkloadIsRead : Type 0
+AUsualWorkloadIsRead =
+    IsReadAs (codes "work 1" ∷ codes "target word32" ∷ codes "object ready bool false" ∷ codes "object hits u16 0" ∷ codes "object id u128 18446744073709551616" ∷ codes "object head ptr 0x0" ∷ codes "thread" ∷ codes "hits fetch_add 1 relaxed" ∷ codes "id fetch_add 1" ∷ codes "ready store true release" ∷ codes "end" ∷ codes "thread" ∷ codes "hits fetch_add 1 relaxed" ∷ codes "id fetch_add 1" ∷ codes "head compare_exchange 0x0 0x10 acq_rel acquire" ∷ codes "end" ∷ codes "thread" ∷ codes "ready load acquire" ∷ codes "head load acquire" ∷ codes "hits fetch_add 1 relaxed" ∷ codes "end" ∷ [])
+    (record { version = 1; target = record { word_bits = 32; packed = true; steps = all_steps; locks = 67; section = false; big = false }; objects = ((record { name = codes "ready"; kind = record { width = W1; signed = false; class = class.Bool }; start = 0 }) ∷ (record { name = codes "hits"; kind = record { width = W16; signed = false; class = class.Int }; start = 0 }) ∷ (record { name = codes "id"; kind = record { width = W128; signed = false; class = class.Int }; start = 18446744073709551616 }) ∷ (record { name = codes "head"; kind = record { width = W64; signed = false; class = class.Ptr }; start = 0 }) ∷ []); scripts = (((One (record { object = 1; call = call.Add 1 false; success = Relaxed; failure = None })) ∷ (One (record { object = 2; call = call.Add 1 false; success = SeqCst; failure = None })) ∷ (One (record { object = 0; call = call.Store 1; success = Release; failure = None })) ∷ []) ∷ ((One (record { object = 1; call = call.Add 1 false; success = Relaxed; failure = None })) ∷ (One (record { object = 2; call = call.Add 1 false; success = SeqCst; failure = None })) ∷ (One (record { object = 3; call = call.Cas 0 16; success = AcqRel; failure = Some Acquire })) ∷ []) ∷ ((One (record { object = 0; call = call.Load; success = Acquire; failure = None })) ∷ (One (record { object = 3; call = call.Load; success = Acquire; failure = None })) ∷ (One (record { object = 1; call = call.Add 1 false; success = Relaxed; failure = None })) ∷ []) ∷ []) })

@@ -1,6 +1,6 @@
 //! Where bytes come from and where they go.
 
-ghost use Rattle.std.specs.Prelude.{◌≡◌, ◌≢◌, ℕ, ◌<◌, ◌≤◌, min, Bool, true, List, [], ◌∷◌, length, IfOk, IfErr, OnOk, OnErr};
+ghost use Rattle.std.specs.Prelude.{◌≡◌, ◌≢◌, ℕ, ◌+◌, ◌<◌, ◌≤◌, min, Bool, true, List, [], ◌∷◌, ◌++◌, length, vec_len, vec_capacity, IfOk, IfErr, OnOk, OnErr};
 ghost use Rattle.std.specs.Io.{ReadsAtMost, WritesAtMost};
 ghost use Rattle.std.specs.Io.KnownBytes.{Appends, Keeps, ReadConsumes, WriteAppends};
 ghost use Rattle.std.specs.declared.option.Option.{Option};
@@ -98,6 +98,16 @@ fn room_of(alloc: Global, size: usize) -> Result<Vec<u8>, ReadEnd>
     }
 }
 
+/// Adds bytes for which there is room.
+fn append(all: &mut Vec<u8>, bytes: &[u8])
+    requires { vec_len all.old + length bytes.now ≤ vec_capacity all.old }
+    ensures { all.new.items ≡ all.old.items ++ bytes.now }
+{
+    let Ok(()) = all.extend_from_slice(bytes) else {
+        unreachable!()
+    };
+}
+
 /// Reads to the end as `read_all` does, by way of a buffer.
 fn read_by<S: Source>(alloc: Global, source: &mut S, buffer: &mut [u8]) -> Result<Vec<u8>, ReadEnd>
     requires { 0 < length buffer.old }
@@ -110,20 +120,21 @@ fn read_by<S: Source>(alloc: Global, source: &mut S, buffer: &mut [u8]) -> Resul
     ensures ended { IfOk result (λ v. length v.items < most_read → ReadToStop (S.meter source.old) (S.meter source.new) (length v.items)) }
     ensures full { IfOk result (λ v. length v.items ≡ most_read → ReadSoFar (S.meter source.old) (S.meter source.new) most_read) }
     ensures stopped { result ≡ Err ReadEnd.Fault → (n : ℕ) × (n < most_read) × ReadToStop (S.meter source.old) (S.meter source.new) n }
+    ensures wanting { result ≡ Err ReadEnd.NoMemory → (n : ℕ) × (n < most_read) × ReadSoFar (S.meter source.old) (S.meter source.new) n }
     ensures further { ReadsNoFurther most_read (S.meter source.old) (S.meter source.new) }
 {
     let mut all = Vec::new(alloc);
     'reads: while all.len() < MOST_READ {
         let want = (MOST_READ - all.len()).min(buffer.len());
+        // Before the read, so that memory is there for all that is read.
+        if all.reserve(want).is_err() {
+            return Err(ReadEnd::NoMemory);
+        }
         let room = &mut buffer[..want];
         match source.read(room) {
             Err(Failed) => return Err(ReadEnd::Fault),
             Ok(0) => return Ok(all),
-            Ok(count) => {
-                if all.extend_from_slice(&room[..count]).is_err() {
-                    return Err(ReadEnd::NoMemory);
-                }
-            }
+            Ok(count) => append(&mut all, &room[..count]),
         }
     }
     Ok(all)
@@ -131,7 +142,8 @@ fn read_by<S: Source>(alloc: Global, source: &mut S, buffer: &mut [u8]) -> Resul
 
 /// Reads to the end, or until 8,388,609 bytes were read; the rest is left unread. It reads no further after a read that
 /// failed or ended the input: Fault comes only where the source's count of faults is one higher than before, and at every
-/// other answer the count is as before. What was read before a Fault or NoMemory stays read. It asks for 64 KiB at a time.
+/// other answer the count is as before. What was read before a Fault or NoMemory stays read; NoMemory never comes once
+/// 8,388,609 bytes were read. It asks for 64 KiB at a time.
 pub fn read_all<S: Source>(alloc: Global, source: &mut S) -> Result<Vec<u8>, ReadEnd>
     ensures bytes { IfOk result (λ v. ReadsAll S.left source.old source.new v.items) }
     ensures short { IfOk result (λ v. length v.items ≤ most_read) }
@@ -142,6 +154,7 @@ pub fn read_all<S: Source>(alloc: Global, source: &mut S) -> Result<Vec<u8>, Rea
     ensures ended { IfOk result (λ v. length v.items < most_read → ReadToStop (S.meter source.old) (S.meter source.new) (length v.items)) }
     ensures full { IfOk result (λ v. length v.items ≡ most_read → ReadSoFar (S.meter source.old) (S.meter source.new) most_read) }
     ensures stopped { result ≡ Err ReadEnd.Fault → (n : ℕ) × (n < most_read) × ReadToStop (S.meter source.old) (S.meter source.new) n }
+    ensures wanting { result ≡ Err ReadEnd.NoMemory → (n : ℕ) × (n < most_read) × ReadSoFar (S.meter source.old) (S.meter source.new) n }
     ensures further { ReadsNoFurther most_read (S.meter source.old) (S.meter source.new) }
 {
     match room_of(alloc, READ_SIZE) {

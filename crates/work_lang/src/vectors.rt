@@ -2,7 +2,7 @@
 
 ghost use Rattle.std.specs.Prelude.{[], ◌∷◌, codes};
 ghost use Rattle.work_lang.specs.declared.fault.Cause.TheVariants as causes;
-ghost use Rattle.work_lang.specs.Vectors.{HasFault, NoObjectsIsRead, OneThreadIsRead, CommentsAndSpacesIsRead, LanesIsRead, InASectionIsRead, KindsOfValuesIsRead, BoolsAndPointersIsRead, ABlockIsRead, ANewValueIsRead, ABigTargetIsRead, TwoThreadsIsRead, WeakExchangeIsRead};
+ghost use Rattle.work_lang.specs.Vectors.{HasFault, NoObjectsIsRead, OneThreadIsRead, CommentsAndSpacesIsRead, LanesIsRead, InASectionIsRead, KindsOfValuesIsRead, BoolsAndPointersIsRead, ABlockIsRead, ANewValueIsRead, ABigTargetIsRead, TwoThreadsIsRead, WeakExchangeIsRead, EightBytesIsRead, ALeastValueIsRead, ANandIsRead, AMinimumIsRead, PositionsIsRead, FourWordsIsRead, NoThreadsIsRead, EqualLinesIsRead, AUsualWorkloadIsRead};
 
 /// An empty text has no line.
 pub fn empty_text()
@@ -282,4 +282,49 @@ pub fn two_threads()
 /// Both exchanges.
 pub fn weak_exchange()
     ensures { WeakExchangeIsRead }
+{}
+
+/// Lanes that fill a word.
+pub fn eight_bytes()
+    ensures { EightBytesIsRead }
+{}
+
+/// The least value of a signed kind.
+pub fn a_least_value()
+    ensures { ALeastValueIsRead }
+{}
+
+/// A call of one operand.
+pub fn a_nand()
+    ensures { ANandIsRead }
+{}
+
+/// Operands of a signed kind.
+pub fn a_minimum()
+    ensures { AMinimumIsRead }
+{}
+
+/// A position of a bit counts modulo the width only when the call is made.
+pub fn positions()
+    ensures { PositionsIsRead }
+{}
+
+/// An object of four words.
+pub fn four_words()
+    ensures { FourWordsIsRead }
+{}
+
+/// Objects alone are a workload.
+pub fn no_threads()
+    ensures { NoThreadsIsRead }
+{}
+
+/// An order that is left out is the strongest.
+pub fn equal_lines()
+    ensures { EqualLinesIsRead }
+{}
+
+/// Three threads on objects of four kinds.
+pub fn a_usual_workload()
+    ensures { AUsualWorkloadIsRead }
 {}
