@@ -1,0 +1,12 @@
+pub mod CallParts
+pub mod Frames
+pub mod Histories
+pub mod HoldSteps
+pub mod Landing
+pub mod Layouts
+pub mod MoveSteps
+pub mod Openings
+pub mod Spelling
+pub mod Ties
+pub mod WordLists
+pub mod WholeLaws

@@ -1,0 +1,15 @@
+pub mod Bytes
+pub mod Calls
+pub mod Histories
+pub mod Keeping
+pub mod Laws
+pub mod Layout
+pub mod Lending
+pub mod Moves
+pub mod Operations
+pub mod Padding
+pub mod Rule
+pub mod Starts
+pub mod States
+pub mod Steps
+pub mod Trials
