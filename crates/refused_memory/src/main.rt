@@ -3,9 +3,11 @@
 #![tactic(auto)]
 
 mod cases;
+mod pushing;
 
 use cases::{CASES, Case};
 use place_core::OpenGate;
+use pushing::push_rule;
 use std::alloc::{AllocError, Global};
 use std::io;
 use std::sync::Wait;
@@ -33,7 +35,8 @@ fn run<R: Threads + Wait + Sync + AllocGlobal>(rt: &R, case: Case) -> (Status, u
     (outcome.status, sink.taken())
 }
 
-/// Runs the case that the first word names, or without a word all of them, and prints a line for each.
+/// Runs the case that the first word names, or without a word all of them, and prints a line for each. The last, `push`,
+/// isn't one of the program's.
 fn main(rt: HostRuntime) -> io::Result<()> {
     let Ok(mut words) = std::env::args(&rt) else {
         return println!(rt; "no words: status {}, 0 bytes", Status::NoMemory.code());
@@ -44,6 +47,10 @@ fn main(rt: HostRuntime) -> io::Result<()> {
             let (status, taken) = run(&rt, case);
             println!(rt; "{}: status {}, {taken} bytes", case.name, status.code())?;
         }
+    }
+    if asked.as_ref().is_none_or(|name| name.as_str() == "push") {
+        let (status, taken) = push_rule(rt.alloc());
+        println!(rt; "push: status {}, {taken} bytes", status.code())?;
     }
     Ok(())
 }
