@@ -191,8 +191,8 @@ impl Machine<'_> {
         }
     }
 
-    /// The state after a move.
-    fn state_after(&self, state: &State, step: &Move) -> Result<State, AllocError>
+    /// The state after a move. `AllocError` where memory is wanting.
+    pub fn state_after(&self, state: &State, step: &Move) -> Result<State, AllocError>
         requires fits { ScriptsFit (cells_of_shape self.now.shape.now) (map script_lines self.now.scripts.now) }
         requires valid { IsShape self.now.shape.now }
         requires object { step.now.object < length self.now.shape.now.objects }
@@ -251,7 +251,7 @@ impl Machine<'_> {
     }
 
     /// The move of a choice at a state, where it has one.
-    fn move_of(&self, state: &State, choice: u32) -> Option<Move>
+    pub fn move_of(&self, state: &State, choice: u32) -> Option<Move>
         requires at { IsAt self.now.shape.now (map script_lines self.now.scripts.now) self.now.kept state.now }
         requires cells { length state.now ≡ cell_count self.now.shape.now (map script_lines self.now.scripts.now) self.now.kept }
         requires choice { choice < 2 * length self.now.scripts.now }

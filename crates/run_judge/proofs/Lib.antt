@@ -1,0 +1,3 @@
+pub mod SameReplies
+pub mod AgreeingSteps
+pub mod Judged

@@ -1,0 +1,4 @@
+pub mod Reports
+pub mod Agreeing
+pub mod Judging
+pub mod Staying
