@@ -1,0 +1,4 @@
+pub mod Replies
+pub mod Waiting
+pub mod Taking
+pub mod Counting
