@@ -1,11 +1,15 @@
 //! Waiting, by one thread and by many.
 
+ghost use Rattle.std.specs.Prelude.{IfSome};
+ghost use Rattle.seat_views.specs.Trials.{IsReady};
+
 use crate::trials::{
-    Bells, Part, at_least, count_out, crowd, give, give_many, look_at, look_typed, make, meet,
-    object, open, take_and_give, to_and_fro, wake_all,
+    Bells, Part, at_least, count_out, count_twice, counts_nothing, crowd, give, give_many, look_at,
+    look_typed, make, meet, object, open, take_and_give, take_give_take, to_and_fro, wake_all,
 };
-use crate::{Bell, Latch, Permits, Zero};
+use crate::{Bell, Zero};
 use op_table::{Call, Reply, Width};
+use seat_views::{Arena, Pass};
 use std::alloc::Global;
 use std::process::Abort;
 use std::sync::Wait;
@@ -19,36 +23,52 @@ const MOST_U32: u128 = 4_294_967_295;
 
 const MOST_U64: u128 = 18_446_744_073_709_551_615;
 
+/// What another thread's store of 7 tells a waiter, and then a look for 7 and one for 6, of three turns each.
+type Told = (Option<u128>, Option<Option<u128>>, Option<Option<u128>>);
+
+/// One thread waits for another number than 0, and another stores 7; then the host looks.
+fn waits_and_looks<R: Threads + Wait + Sync>(rt: &R, alloc: Global) -> Option<Told> {
+    let n = object(Width::W32, 0)?;
+    let (arena, mut root) = open(alloc, b"full64", &[n])?;
+    let (p, q) = (give(&arena, &mut root)?, give(&arena, &mut root)?);
+    let mut after = give(&arena, &mut root)?;
+    let found = meet(rt, &arena, p, q, Call::Store(7));
+    let same = look_at(&arena, &mut after, 0, 7, 3);
+    Some((found, same, look_at(&arena, &mut after, 0, 6, 3)))
+}
+
 #[test]
 fn waiter_answers_what_another_stored(rt: HostRuntime) -> Result<(), Fail> {
-    let n = object(Width::W32, 0).ok_or("an object")?;
-    let (arena, mut root) = open(rt.alloc(), b"full64", &[n]).ok_or("it opens")?;
-    let p = give(&arena, &mut root).ok_or("a number is left")?;
-    let q = give(&arena, &mut root).ok_or("a number is left")?;
-    let mut after = give(&arena, &mut root).ok_or("a number is left")?;
-    assert_eq!(rt; meet(&rt, &arena, p, q, Call::Store(7)), Some(7), "wait(0)");
-    assert_eq!(rt; look_at(&arena, &mut after, 0, 7, 3), Some(None), "look(7)");
-    assert_eq!(rt;
-        look_at(&arena, &mut after, 0, 6, 3),
-        Some(Some(7)),
-        "look(6)"
-    );
-    assert_eq!(rt;
-        look_typed(&arena, &mut after, 0, 7, 1),
-        Some(None),
-        "typed, 7"
-    );
-    assert_eq!(rt;
-        look_typed(&arena, &mut after, 0, 8, 1),
-        Some(Some(7)),
-        "typed, 8"
-    );
+    let told = waits_and_looks(&rt, rt.alloc());
+    assert_eq!(rt; told, Some((Some(7), Some(None), Some(Some(7)))));
+    Ok(())
+}
+
+/// Looks by the type for 7 and for 8 at a number that is 7.
+fn looks_by_type(alloc: Global) -> Option<(Option<Option<u32>>, Option<Option<u32>>)> {
+    let n = object(Width::W32, 7)?;
+    let (arena, mut root) = open(alloc, b"full64", &[n])?;
+    let mut p = give(&arena, &mut root)?;
+    let same = look_typed(&arena, &mut p, 0, 7, 1);
+    Some((same, look_typed(&arena, &mut p, 0, 8, 1)))
+}
+
+/// Waits until a number that is 7 is at least 7.
+fn waits_for_least<R: Wait>(rt: &R, alloc: Global) -> Option<u128> {
+    let n = object(Width::W32, 7)?;
+    let (arena, mut root) = open(alloc, b"full64", &[n])?;
+    let mut p = give(&arena, &mut root)?;
     let bell = Bell::new();
+    at_least(rt, &arena, &mut p, 0, 7, &bell)
+}
+
+#[test]
+fn typed_looks_and_closures_answer(rt: HostRuntime) -> Result<(), Fail> {
     assert_eq!(rt;
-        at_least(&rt, &arena, &mut after, 0, 7, &bell),
-        Some(7),
-        "from 7"
+        looks_by_type(rt.alloc()),
+        Some((Some(None), Some(Some(7))))
     );
+    assert_eq!(rt; waits_for_least(&rt, rt.alloc()), Some(7));
     Ok(())
 }
 
@@ -118,7 +138,7 @@ fn four_threads_share_two_permits(rt: HostRuntime) -> Result<(), Fail> {
     let bells = Bells::new();
     let most = crowd(&rt, &arena, passes, &bells, Part::Lends).ok_or("memory")?;
     assert_eq!(rt;
-        count_of(&most, 0) + count_of(&most, 1),
+        count_of(&most, 0).wrapping_add(count_of(&most, 1)),
         4,
         "each take left 0 or 1"
     );
@@ -140,38 +160,39 @@ fn permit_comes_from_another_thread(rt: HostRuntime) -> Result<(), Fail> {
     Ok(())
 }
 
+/// An arena of permits at 0, of a number of 64 bits, and of a latch at 1; and a pass.
+fn three_objects(alloc: Global) -> Option<(Arena, Pass)>
+    ensures { IfSome result (λ r. IsReady r.0 r.1) }
+{
+    let n = object(Width::W32, 0)?;
+    let wide = object(Width::W64, 1)?;
+    let latch = object(Width::W32, 1)?;
+    let (arena, mut root) = open(alloc, b"word32", &[n, wide, latch])?;
+    let pass = give(&arena, &mut root)?;
+    Some((arena, pass))
+}
+
 #[test]
 fn counts_are_u32s(rt: HostRuntime) -> Result<(), Fail> {
-    let n = object(Width::W32, 0).ok_or("an object")?;
-    let wide = object(Width::W64, 1).ok_or("an object")?;
-    let latch = object(Width::W32, 1).ok_or("an object")?;
-    let (arena, mut root) = open(rt.alloc(), b"word32", &[n, wide, latch]).ok_or("it opens")?;
-    let mut p = give(&arena, &mut root).ok_or("a number is left")?;
-    let bell = Bell::new();
-    assert!(rt;
-        Permits::of(&arena, 1).is_none() && Latch::of(&arena, 1).is_none(),
-        "a u64"
-    );
-    assert!(rt;
-        Permits::of(&arena, 3).is_none() && Latch::of(&arena, 3).is_none(),
-        "none"
-    );
-    let permits = Permits::of(&arena, 0).ok_or("a u32")?;
-    assert_eq!(rt; permits.one_less(&rt, &arena, &mut p), Err(Zero), "at 0");
-    assert_eq!(rt; permits.give(&rt, &arena, &mut p, &bell), 0, "give");
-    assert_eq!(rt; permits.one_less(&rt, &arena, &mut p), Ok(0), "at 1");
-    let latch = Latch::of(&arena, 2).ok_or("a u32")?;
-    assert_eq!(rt;
-        latch.count_down(&rt, &arena, &mut p, &bell),
-        Ok(0),
-        "down to 0"
-    );
-    assert_eq!(rt;
-        latch.count_down(&rt, &arena, &mut p, &bell),
-        Err(Zero),
-        "below 0"
-    );
-    latch.wait_zero(&rt, &arena, &mut p, &bell);
+    let (arena, _pass) = three_objects(rt.alloc()).ok_or("it opens")?;
+    assert!(rt; counts_nothing(&arena, 1), "a u64");
+    assert!(rt; counts_nothing(&arena, 3), "none");
+    Ok(())
+}
+
+#[test]
+fn permit_at_zero_is_refused(rt: HostRuntime) -> Result<(), Fail> {
+    let (arena, mut pass) = three_objects(rt.alloc()).ok_or("it opens")?;
+    let told = take_give_take(&rt, &arena, &mut pass, 0);
+    assert_eq!(rt; told, Some((Err(Zero), 0, Ok(0))));
+    Ok(())
+}
+
+#[test]
+fn latch_stays_at_zero(rt: HostRuntime) -> Result<(), Fail> {
+    let (arena, mut pass) = three_objects(rt.alloc()).ok_or("it opens")?;
+    let told = count_twice(&rt, &arena, &mut pass, 2);
+    assert_eq!(rt; told, Some((Ok(0), Err(Zero))));
     Ok(())
 }
 

@@ -2,10 +2,11 @@
 
 ghost use Rattle.std.specs.Prelude.{IfSome};
 ghost use Rattle.std.specs.List.{All};
+ghost use Rattle.std.specs.Thread.{IsSync};
 ghost use Rattle.seat_views.specs.Trials.{IsReady, IsReadyRoot};
 ghost use Rattle.wait_cell.specs.Takes.{HasCount};
 
-use crate::{AtomicWait, Bell, Latch, Permits, look, wait, wait_while};
+use crate::{AtomicWait, Bell, Latch, Permits, Zero, look, wait, wait_while};
 use atomic_types::{AtomicU32, Served};
 use layout_plan::{are_declared, lay};
 use op_table::{Call, Class, Kind, Reply, Width, call_fits};
@@ -177,6 +178,45 @@ pub(crate) fn look_typed(
         Path::One(_) => Some(number.look(arena, pass, expected, turns)),
         _ => None,
     }
+}
+
+/// Whether an object is neither permits nor a latch.
+pub(crate) fn counts_nothing(arena: &Arena, object: u32) -> bool {
+    Permits::of(arena, object).is_none() && Latch::of(arena, object).is_none()
+}
+
+/// Takes a permit of an object if one is left, gives one, and takes one again. None where it counts no permits.
+pub(crate) fn take_give_take<R: Wait>(
+    rt: &R,
+    arena: &Arena,
+    pass: &mut Pass,
+    object: u32,
+) -> Option<(Result<u32, Zero>, u32, Result<u32, Zero>)>
+    requires { IsReady arena.now pass.old }
+{
+    let bell = Bell::new();
+    let permits = Permits::of(arena, object)?;
+    let first = permits.one_less(rt, arena, pass);
+    let before = permits.give(rt, arena, pass, &bell);
+    let last = permits.one_less(rt, arena, pass);
+    Some((first, before, last))
+}
+
+/// Counts an object down twice, and waits until it is 0. None where it is no latch.
+pub(crate) fn count_twice<R: Wait>(
+    rt: &R,
+    arena: &Arena,
+    pass: &mut Pass,
+    object: u32,
+) -> Option<(Result<u32, Zero>, Result<u32, Zero>)>
+    requires { IsReady arena.now pass.old }
+{
+    let bell = Bell::new();
+    let latch = Latch::of(arena, object)?;
+    let first = latch.count_down(rt, arena, pass, &bell);
+    let second = latch.count_down(rt, arena, pass, &bell);
+    latch.wait_zero(rt, arena, pass, &bell);
+    Some((first, second))
 }
 
 /// Makes a call on object 0, and rings.
@@ -391,7 +431,9 @@ pub(crate) fn wake_all<R: Threads + Wait + Clock + Sync>(
     let bells = &bells;
     let (found, _) = join(
         rt,
-        move || crowd(rt, arena, waiters, bells, Part::Waits),
+        move ||
+            requires { IsSync R.row × All (λ p. IsReady arena.now p) waiters.items }
+        { crowd(rt, arena, waiters, bells, Part::Waits) },
         move || release(rt, arena, q, bells, count),
     );
     found
@@ -413,8 +455,12 @@ pub(crate) fn count_out<R: Threads + Wait + Sync>(
     let bells = &bells;
     join(
         rt,
-        move || crowd(rt, arena, counters, bells, Part::Counts),
-        move || crowd(rt, arena, leavers, bells, Part::Leaves),
+        move ||
+            requires { IsSync R.row × All (λ p. IsReady arena.now p) counters.items }
+        { crowd(rt, arena, counters, bells, Part::Counts) },
+        move ||
+            requires { IsSync R.row × All (λ p. IsReady arena.now p) leavers.items }
+        { crowd(rt, arena, leavers, bells, Part::Leaves) },
     )
 }
 
