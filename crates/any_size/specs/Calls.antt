@@ -17,6 +17,7 @@ use Rattle.any_size.specs.States.{BlocksState, BlockPassState, IsKept}
 abbrev pub missed : ℕ → ℕ → List BlockItem
 missed lock n = replicate n (item lock kind.Take 1)
 
+-- and then the one that got it
 abbrev pub takes : ℕ → ℕ → List BlockItem
 takes lock n = missed lock n ++ item lock kind.Take 0 ∷ []
 
@@ -68,6 +69,7 @@ pub record Trying (b : BlocksState) (o : ℕ) (p q : BlockPassState) : Type 0 wh
 pub record Took (b : BlocksState) (o misses : ℕ) (p q : BlockPassState) : Type 0 where
   pub now : q ≡ record p { trail = p.trail ++ takes (lock_word (lock_of b.locks o)) misses; hold = Held o [] [] }
 
+-- it was taken, after some takes that found it held
 pub record TookLast (b : BlocksState) (o : ℕ) (p q : BlockPassState) : Type 0 where
   pub misses : ℕ
   pub took : Took b o misses p q

@@ -12,9 +12,11 @@ start_at starts o = slice_index_or starts o []
 abbrev pub size_of : List (List ℕ) → ℕ → ℕ
 size_of starts o = length (start_at starts o)
 
+-- who made the entry
 abbrev pub caller_of : BlockEntry → ℕ
 caller_of x = x.caller
 
+-- which object it is on
 abbrev pub object_of : BlockEntry → ℕ
 object_of x = x.object
 

@@ -28,6 +28,7 @@ spent_view = record { role = role.Spent; starts = []; locks = 0; number = 0; see
 
 -- ---- the history
 
+-- the pass that is kept beside a view, if there is one
 abbrev pub kept_of : Beside → Kept BlockEntry
 kept_of beside.Nobody = NoneKept
 kept_of (beside.Pass n seen mine trail aside) = PassKept n seen mine
@@ -36,20 +37,25 @@ kept_of (beside.Pass n seen mine trail aside) = PassKept n seen mine
 abbrev pub known_of : BlockView → Known BlockEntry BlockEnded
 known_of v = record { number = v.number; seen = v.seen; mine = v.mine; given = v.given; ended = v.ended; beside = kept_of v.beside }
 
+-- who takes part in the numbering, by the role of its seat
 abbrev pub party_at : BlockRole → Known BlockEntry BlockEnded → Party BlockEntry BlockEnded
 party_at role.Pass k = PassOf k
 party_at role.Spent k = NoParty
 
+-- the same of a view
 abbrev pub party_of : BlockView → Party BlockEntry BlockEnded
 party_of v = party_at v.role (known_of v)
 
+-- the seat is that of a pass that goes on
 abbrev pub is_live : BlockRole → Bool
 is_live role.Pass = true
 is_live role.Spent = false
 
+-- the number of a pass that ended
 abbrev pub number_of_ended : BlockEnded → ℕ
 number_of_ended e = e.number
 
+-- its entries
 abbrev pub entries_of_ended : BlockEnded → List BlockEntry
 entries_of_ended e = e.entries
 
@@ -80,6 +86,7 @@ abbrev pub written_of : ℕ → List ℕ → Option ℕ
 written_of o [] = None
 written_of o (x ∷ xs) = Some o
 
+-- a word was written
 abbrev pub IsWritten : List ℕ → Type 0
 IsWritten [] = ⊥
 IsWritten (x ∷ xs) = Unit {0}
@@ -129,6 +136,7 @@ pub record Words (starts : List (List ℕ)) (locks : ℕ) (log : List BlockEntry
 
 -- ---- the rule
 
+-- the rule: one list of entries of which every view has seen a beginning, a number for each pass, a state for each lock, and the words as these say
 pub record BlocksHold (starts : List (List ℕ)) (locks : ℕ) (s : State (Unit {0}) BlockView) : Type 0 where
   pub log : List BlockEntry
   pub count : ℕ
@@ -137,5 +145,6 @@ pub record BlocksHold (starts : List (List ℕ)) (locks : ℕ) (s : State (Unit 
   pub history : History starts locks log count owner s.views
   pub words : Words starts locks log state s.words s.views
 
+-- the rule of a table that was opened so
 abbrev pub rule_of : BlockOpening → State (Unit {0}) BlockView → Type 0
 rule_of k s = BlocksHold k.starts.items k.locks s

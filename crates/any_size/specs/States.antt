@@ -38,9 +38,11 @@ pub record BlockPassState : Type 0 where
   pub given : ℕ
   pub ended : List BlockEnded
 
+-- what is seen of a table, by its opening
 abbrev pub blocks_of : TableId → BlockOpening → BlocksState
 blocks_of z k = record { id = z; starts = k.starts.items; locks = k.locks }
 
+-- what is seen of a pass, by its view
 abbrev pub state_of : TableId → BlockView → BlockPassState
 state_of z v = record { blocks = z; starts = v.starts; locks = v.locks; number = v.number; seen = v.seen; mine = v.mine; trail = v.trail; aside = v.aside; hold = v.hold; given = v.given; ended = v.ended }
 

@@ -21,6 +21,7 @@ use Rattle.any_size.specs.Histories.{size_of, value_of, IsLegal, caller_of, entr
 use Rattle.any_size.specs.Layout.{count_of}
 use Rattle.any_size.specs.Rule.{number_of_ended, entries_of_ended, held_now}
 
+-- a seat of the table, with its view
 abbrev pub Seated : Type 0
 Seated = Me (Unit {0}) BlockView
 
@@ -34,9 +35,11 @@ tells_nothing st m n w = Unit {0}
 
 -- ---- views after a step
 
+-- a step: the word, its kind, and the number
 abbrev pub item : ℕ → BlockStep → ℕ → BlockItem
 item word k n = record { word = word; kind = k; number = n }
 
+-- an entry of the history
 abbrev pub entry : ℕ → ℕ → BlockCall → BlockReply → BlockEntry
 entry c o call r = record { caller = c; object = o; call = call; reply = r }
 
@@ -57,6 +60,7 @@ abbrev pub read_more : Hold → List ℕ → Hold
 read_more Idle ns = Idle
 read_more (Held o read put) ns = Held o (read ++ ns) put
 
+-- more words were written
 abbrev pub put_more : Hold → List ℕ → Hold
 put_more Idle ns = Idle
 put_more (Held o read put) ns = Held o read (put ++ ns)
@@ -68,6 +72,7 @@ items k word (n ∷ ns) = item word k n ∷ items k (word + 1) ns
 
 -- ---- what a pass knows by itself
 
+-- the root knows of each number that it gave whether its pass ended, and of one that did all entries
 abbrev pub IsRootSound : List BlockEntry → ℕ → List BlockEnded → Type 0
 IsRootSound seen given ended = Passes.IsRootSound caller_of number_of_ended entries_of_ended seen given ended
 
@@ -103,9 +108,11 @@ pub record Asked : Type 0 where
   pub call : BlockCall
   pub value : List ℕ
 
+-- a step is asked for the object alone
 abbrev pub asked_object : ℕ → Asked
 asked_object o = record { object = o; call = Load; value = [] }
 
+-- a step is asked for the call and the value that was read
 abbrev pub asked_value : ℕ → BlockCall → List ℕ → Asked
 asked_value o call v = record { object = o; call = call; value = v }
 
@@ -113,24 +120,31 @@ asked_value o call v = record { object = o; call = call; value = v }
 abbrev pub take_tells : Asked → ℕ → Seated → ℕ → Seated → Type 0
 take_tells a word m n w = (w.1 ≡ m.1) × (n < 2) × (w.0 ≡ moved m.0 (item word kind.Take n) (taken a.object n))
 
+-- the same of the step as the table has it
 abbrev pub take_told : Asked → Told
 take_told a st m n w = take_tells a st.word m n w
 
+-- a word was read under the lock
 abbrev pub held_tells : ℕ → Seated → ℕ → Seated → Type 0
 held_tells word m n w = (w.1 ≡ m.1) × (w.0 ≡ moved m.0 (item word kind.Held n) (read_more m.0.hold (n ∷ []))) × TellsValue m.0.starts (read_more m.0.hold (n ∷ []))
 
+-- the same of the step as the table has it
 abbrev pub held_told : Told
 held_told st m n w = held_tells st.word m n w
 
+-- a word was written
 abbrev pub put_tells : ℕ → Seated → ℕ → Seated → Type 0
 put_tells word m n w = (w.1 ≡ m.1) × (w.0 ≡ moved m.0 (item word kind.Put n) (put_more m.0.hold (n ∷ [])))
 
+-- the same of the step as the table has it
 abbrev pub put_told : Told
 put_told st m n w = put_tells st.word m n w
 
+-- the lock was given up, which made the entry
 abbrev pub release_tells : Asked → ℕ → Seated → Seated → Type 0
 release_tells a word m w = (w.1 ≡ m.1) × Grows m.0 (entry m.0.number a.object a.call (block_answer a.call a.value)) (item word kind.Release 0) a.value w.0
 
+-- the same of the step as the table has it
 abbrev pub release_told : Asked → Told
 release_told a st m n w = release_tells a st.word m w
 

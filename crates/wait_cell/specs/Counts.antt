@@ -20,10 +20,12 @@ IsPermitCall (Cas e n) = (1 ≤ e) × (n ≡ e - 1)
 IsPermitCall (Add a q) = a ≡ 1
 IsPermitCall _ = ⊥
 
+-- the call is an addition
 abbrev pub is_add : Call → Bool
 is_add (Add a q) = true
 is_add _ = false
 
+-- the reply tells that an exchange was done
 abbrev pub is_done : Reply → Bool
 is_done (reply.Done v) = true
 is_done _ = false
@@ -50,6 +52,7 @@ pub record ArePermitsKept (cells : List Cell) (o start : ℕ) (H : List Entry) :
   pub most : value_of cells H o ≤ start
   pub out : taken o H ≤ start + given_back o H
 
+-- so it is of every legal permit history
 abbrev pub PermitsAreKept : Type 0
 PermitsAreKept = (cells : List Cell) (o : ℕ) (cell : Cell) (H : List Entry) → slice_get cells o ≡ Some cell → cell.start < values_of cell.kind
     → IsLegal cells H → IsPermitHistory o H → ArePermitsKept cells o cell.start H
