@@ -32,7 +32,7 @@ fn shows(shape: &Shape, scripts: &[Script], last: &Replies, state: &State) -> bo
 }
 
 /// Whether some run of the scripts over the shape has these replies of its threads, of each a list, and these replies to
-/// the last loads. TooManyStates comes exactly where the beginnings of runs with these replies have more than `limit`
+/// the last loads. TooManyStates comes only where the beginnings of runs with these replies have more than `limit`
 /// states. NoMemory comes where the allocator refused memory.
 pub fn judge(
     alloc: Global,

@@ -64,7 +64,7 @@ fn add_outcome(
 }
 
 /// Every outcome that a run of the scripts over the shape can have, as a list of numbers, in order. TooManyStates comes
-/// exactly where beginnings of runs, with all their replies, have more than `limit` states. NoMemory comes where the
+/// only where beginnings of runs, with all their replies, have more than `limit` states. NoMemory comes where the
 /// allocator refused memory.
 pub fn every_outcome(
     alloc: Global,
