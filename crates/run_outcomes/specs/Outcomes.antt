@@ -14,6 +14,7 @@ use Rattle.place_core.specs.Shapes.{cells_of_shape}
 use Rattle.place_core.specs.ShapeRuns.{IsRun}
 use Rattle.run_steps.specs.Parts.{lines_of}
 use Rattle.run_steps.specs.Standing.{reply_number, told_thread, told_place}
+use Rattle.run_machine.specs.States.{HasEveryState}
 
 -- ---- outcomes as numbers
 
@@ -76,3 +77,7 @@ cell_at S scripts s i =
 -- the outcome at such a state
 abbrev pub outcome_at : Shape → List (List Line) → List ℕ → List ℕ
 outcome_at S scripts s = map (cell_at S scripts s) (range_with_len 0 (told_count scripts + length S.objects))
+
+-- the states of all beginnings of runs, with this many replies of each thread, are within the limit
+abbrev pub IsWithin : Shape → List (List Line) → ℕ → ℕ → Type 0
+IsWithin S scripts kept limit = (states : BTreeSet (List ℕ)) × HasEveryState S scripts kept limit states

@@ -10,7 +10,7 @@ ghost use Rattle.outcomes.specs.declared.fault.SearchFault.TheVariants.{TooManyS
 ghost use Rattle.outcomes.specs.Reached.{ReachesMore};
 ghost use Rattle.run_steps.specs.Standing.{state_of, cell_count};
 ghost use Rattle.run_steps.specs.Steps.{step_of};
-ghost use Rattle.run_outcomes.specs.Outcomes.{longest, told_count, HasEveryOutcome};
+ghost use Rattle.run_outcomes.specs.Outcomes.{IsWithin, longest, told_count, HasEveryOutcome};
 ghost use Rattle.run_outcomes.specs.Collecting.{AddsOutcome};
 
 use crate::ends::{ends_all, outcome_at};
@@ -64,7 +64,7 @@ fn add_outcome(
 }
 
 /// Every outcome that a run of the scripts over the shape can have, as a list of numbers, in order. TooManyStates comes
-/// only where beginnings of runs, with all their replies, have more than `limit` states. NoMemory comes where the
+/// exactly where beginnings of runs, with all their replies, have more than `limit` states. NoMemory comes where the
 /// allocator refused memory.
 pub fn every_outcome(
     alloc: Global,
@@ -76,6 +76,7 @@ pub fn every_outcome(
     requires fits { ScriptsFit (cells_of_shape shape.now) (map script_lines scripts.now) }
     requires few { length scripts.now ≤ 64 }
     ensures ok { IfOk result (HasEveryOutcome shape.now (map script_lines scripts.now)) }
+    ensures within { IfOk result (λ _. IsWithin shape.now (map script_lines scripts.now) (longest (map script_lines scripts.now)) limit) }
     ensures many { result ≡ Err TooManyStates → ReachesMore (slice_cmp nat_cmp) (2 * length scripts.now) (step_of shape.now (map script_lines scripts.now) (longest (map script_lines scripts.now))) (state_of shape.now (map script_lines scripts.now) (longest (map script_lines scripts.now)) []) limit }
 {
     let most = longest(scripts);

@@ -25,3 +25,10 @@ states-preserved c = IsCollecting-more c.args.shape.now (map script_lines c.args
 pub returns-clause-ok : goal.returns-clause-ok
 returns-clause-ok c = HasEveryOutcome-ends c.args.shape.now (map script_lines c.args.scripts.now) c.states.states c.states.found c.states.invariant
     (empty_where_none c.states.states c.in_default.ensures.variant.1)
+
+pub returns-clause-within : goal.returns-clause-within
+returns-clause-within c = (
+  c.in-Ok.states,
+  moved c.new-machine.result.shape.now c.args.shape.now c.new-machine.result.scripts.now c.args.scripts.now c.new-machine.result.kept (longest (map script_lines c.args.scripts.now)) c.args.limit c.in-Ok.states
+      c.new-machine.ensures.shape c.new-machine.ensures.scripts (c.new-machine.ensures.kept ∙ c.longest-most.ensures) c.in-Ok.ensures.ok,
+)
